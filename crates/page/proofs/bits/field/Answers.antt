@@ -1,0 +1,6 @@
+use borrow.Author.Needs.{needs}
+use Rattle.page.proofs.FirstLaws.{holds-whole}
+use Rattle.page.proofs.bits.field.Needs as need
+
+pub returns : need.returns
+returns c = search (needs, holds-whole)

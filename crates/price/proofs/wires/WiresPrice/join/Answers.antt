@@ -1,0 +1,6 @@
+use borrow.Author.Needs.{needs}
+use Rattle.price.proofs.KindLaws.{same-wires}
+use Rattle.price.proofs.wires.WiresPrice.join.Needs as need
+
+pub returns : need.returns
+returns c = same-wires _ _ (search needs)

@@ -1,0 +1,4 @@
+pub mod Kind
+pub mod Wires
+pub mod TimersFirst
+pub mod Widest
