@@ -5,10 +5,14 @@ use mathlib.Core.List.{List}
 use native.Mathlib.Numerals.{add-one}
 use native.Mathlib.Nat.{pow-succ'}
 use native.Mathlib.Omega.{arith}
-use lib.ListN.{getD}
+use lib.ListN.{length, getD}
 use lib.Pow.{pow-mono}
 use Rattle.std.proofs.shelf.Bits.{mod-below}
+use Rattle.std.proofs.shelf.Tests.{lt-ltb, le-ltb}
+use Rattle.std.specs.declared.option.Option.the-variants.{Some, None}
+use Rattle.refusal.specs.declared.Fault.the-variants.{PageEnds}
 use Rattle.page.specs.Bits.{bit-at, field-at}
+use Rattle.page.specs.Faults.{ends}
 
 pub bit-below : (bytes : List ℕ) (at : ℕ) → bit-at bytes at < 2
 bit-below bytes at = mod-below (getD bytes (at / 8) 0 / 2 ^ (7 - at % 8)) 2 (omega arith)
@@ -31,3 +35,9 @@ pub field-fits : (bytes : List ℕ) (at w : ℕ) → w < 32 → field-at bytes a
 field-fits bytes at w h =
     let l : w ≤ 31 = omega arith in let p : 2 ^ w ≤ 2 ^ 31 = pow-mono l in
     omega (arith, field-below bytes at w, bit-below bytes (at + w), p)
+
+pub holds-whole : (bytes : List ℕ) (at w : ℕ) → at + w ≤ 8 * length bytes → ends bytes at w ≡ None
+holds-whole bytes at w h = rw (le-ltb (8 * length bytes) (at + w) h)
+
+pub ends-inside : (bytes : List ℕ) (at w : ℕ) → 8 * length bytes < at + w → ends bytes at w ≡ Some (PageEnds at)
+ends-inside bytes at w h = rw (lt-ltb (8 * length bytes) (at + w) h)

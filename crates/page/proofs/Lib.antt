@@ -1,5 +1,5 @@
 pub mod FieldLaws
-pub mod FirstLaws
 pub mod PinLaws
 pub mod TableLaws
 pub mod PageLaws
+pub mod Accepted

@@ -7,8 +7,9 @@ use Rattle.std.specs.declared.option.Option.{Option}
 use Rattle.std.specs.declared.option.Option.the-variants.{Some, None}
 use Rattle.refusal.specs.declared.Fault.{Fault}
 use Rattle.page.specs.Layout.{modules-field, nets-field, net-bit, pins-table}
-use Rattle.page.specs.Faults.{or-else, header-fault, nets-fault, pad-fault, room-fault, page-fault, unpack-fault}
-use Rattle.page.proofs.FirstLaws.{or-some, or-none}
+use Rattle.refusal.specs.Checks.{or-else}
+use Rattle.page.specs.Faults.{header-fault, nets-fault, pad-fault, room-fault, page-fault, unpack-fault}
+use Rattle.refusal.proofs.CheckLaws.{or-some, or-none}
 
 module _ (bytes : List ℕ) (kind starts pins prices : ℕ) where
   pub header-told : (e : Fault) → header-fault bytes kind ≡ Some e → unpack-fault bytes kind starts pins prices ≡ Some e

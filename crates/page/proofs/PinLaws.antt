@@ -14,7 +14,8 @@ use Rattle.refusal.specs.declared.Place.the-variants.{Bit}
 use Rattle.refusal.specs.declared.Fault.{Fault}
 use Rattle.refusal.specs.declared.Fault.the-variants.{NoSuchModule, RepeatedPin, TooFewPins}
 use Rattle.page.specs.Layout.{pin, pin-bit, pin-count, price-bit}
-use Rattle.page.specs.Faults.{among, ends, first-of, pin-fault, net-fault}
+use Rattle.refusal.specs.Checks.{first-fault}
+use Rattle.page.specs.Faults.{among, ends, pin-fault, net-fault}
 
 or-true : (b : _) → (b || true) ≡ true
 or-true true = refl
@@ -66,11 +67,11 @@ module _ (bytes : List ℕ) (at : ℕ) where
     unfolding net-fault
     net-few p h = rw (p, lt-ltb (pin-count bytes at) 2 h)
 
-    pub net-pin : (e : Fault) → ends bytes at 7 ≡ None → 2 ≤ pin-count bytes at → first-of (pin-fault bytes modules at) (pin-count bytes at) ≡ Some e → net-fault bytes modules at ≡ Some e
+    pub net-pin : (e : Fault) → ends bytes at 7 ≡ None → 2 ≤ pin-count bytes at → first-fault (pin-fault bytes modules at) (pin-count bytes at) ≡ Some e → net-fault bytes modules at ≡ Some e
     unfolding net-fault
     net-pin e p h q = rw (p, le-ltb (pin-count bytes at) 2 h, q)
 
     -- with a count and pins that pass, the net's fault is its price field's
-    pub net-price : ends bytes at 7 ≡ None → 2 ≤ pin-count bytes at → first-of (pin-fault bytes modules at) (pin-count bytes at) ≡ None → net-fault bytes modules at ≡ ends bytes (price-bit bytes at) 32
+    pub net-price : ends bytes at 7 ≡ None → 2 ≤ pin-count bytes at → first-fault (pin-fault bytes modules at) (pin-count bytes at) ≡ None → net-fault bytes modules at ≡ ends bytes (price-bit bytes at) 32
     unfolding net-fault
     net-price p h q = rw (p, le-ltb (pin-count bytes at) 2 h, q)

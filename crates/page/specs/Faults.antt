@@ -9,22 +9,9 @@ use Rattle.std.specs.declared.option.Option.the-variants.{Some, None}
 use Rattle.refusal.specs.declared.Place.the-variants.{Bit}
 use Rattle.refusal.specs.declared.Fault.{Fault}
 use Rattle.refusal.specs.declared.Fault.the-variants.{PageEnds, OtherKind, TooManyModules, TooManyNets, TooFewPins, NoSuchModule, RepeatedPin, AfterLastNet, TooShort}
+use Rattle.refusal.specs.Checks.{fault-if, or-else, first-fault}
 use Rattle.page.specs.Bits.{bit-at}
 use Rattle.page.specs.Layout.{kind-field, modules-field, nets-field, pin-count, pin-bit, pin, price-bit, net-bit, pins-table}
-
--- the first fault of two checks
-abbrev pub or-else : Option Fault → Option Fault → Option Fault
-or-else None b = b
-or-else (Some e) b = Some e
-
--- the first fault of the checks 0 to n - 1
-unfoldable pub first-of : (ℕ → Option Fault) → ℕ → Option Fault
-first-of check zero = None
-first-of check (suc n) = or-else (first-of check n) (check n)
-
-abbrev pub refuse-if : Bool → Fault → Option Fault
-refuse-if true e = Some e
-refuse-if false e = None
 
 -- how many bytes hold the bits up to a bit
 abbrev pub bytes-to : ℕ → ℕ
@@ -33,20 +20,20 @@ bytes-to end = (end + 7) / 8
 -- tables with room for so many starts, pins and prices, where a page has so many nets and pins
 abbrev pub room-fault : ℕ → ℕ → ℕ → ℕ → ℕ → Option Fault
 room-fault nets count starts pins prices =
-    or-else (refuse-if (ltb starts (nets + 1)) (TooShort 1))
-    (or-else (refuse-if (ltb pins count) (TooShort 2)) (refuse-if (ltb prices nets) (TooShort 3)))
+    or-else (fault-if (ltb starts (nets + 1)) (TooShort 1))
+    (or-else (fault-if (ltb pins count) (TooShort 2)) (fault-if (ltb prices nets) (TooShort 3)))
 
 module _ (bytes : List ℕ) where
   -- the page ends inside the field
   abbrev pub ends : ℕ → ℕ → Option Fault
-  ends at width = refuse-if (ltb (8 * length bytes) (at + width)) (PageEnds at)
+  ends at width = fault-if (ltb (8 * length bytes) (at + width)) (PageEnds at)
 
   -- the header's fields: the kind wanted, at most 64 modules, at most 1,024 nets
   abbrev pub header-fault : ℕ → Option Fault
   header-fault kind =
-      or-else (ends 0 4) (or-else (refuse-if (not (eqb (kind-field bytes) kind)) (OtherKind 0))
-      (or-else (ends 4 7) (or-else (refuse-if (ltb 64 (modules-field bytes)) (TooManyModules (Bit 4)))
-      (or-else (ends 11 11) (refuse-if (ltb 1024 (nets-field bytes)) (TooManyNets (Bit 11)))))))
+      or-else (ends 0 4) (or-else (fault-if (not (eqb (kind-field bytes) kind)) (OtherKind 0))
+      (or-else (ends 4 7) (or-else (fault-if (ltb 64 (modules-field bytes)) (TooManyModules (Bit 4)))
+      (or-else (ends 11 11) (fault-if (ltb 1024 (nets-field bytes)) (TooManyNets (Bit 11)))))))
 
   -- one of the first n pins of a net is v
   unfoldable pub among : ℕ → ℕ → ℕ → Bool
@@ -57,23 +44,23 @@ module _ (bytes : List ℕ) where
   unfoldable pub pin-fault : ℕ → ℕ → ℕ → Option Fault
   pin-fault modules at k =
       or-else (ends (pin-bit at k) 6)
-      (or-else (refuse-if (not (ltb (pin bytes at k) modules)) (NoSuchModule (Bit (pin-bit at k))))
-      (refuse-if (among at (pin bytes at k) k) (RepeatedPin (Bit (pin-bit at k)))))
+      (or-else (fault-if (not (ltb (pin bytes at k) modules)) (NoSuchModule (Bit (pin-bit at k))))
+      (fault-if (among at (pin bytes at k) k) (RepeatedPin (Bit (pin-bit at k)))))
 
   -- the net at a bit: its pin count, which is two and more, its pins, its price
   unfoldable pub net-fault : ℕ → ℕ → Option Fault
   net-fault modules at =
-      or-else (ends at 7) (or-else (refuse-if (ltb (pin-count bytes at) 2) (TooFewPins (Bit at)))
-      (or-else (first-of (pin-fault modules at) (pin-count bytes at)) (ends (price-bit bytes at) 32)))
+      or-else (ends at 7) (or-else (fault-if (ltb (pin-count bytes at) 2) (TooFewPins (Bit at)))
+      (or-else (first-fault (pin-fault modules at) (pin-count bytes at)) (ends (price-bit bytes at) 32)))
 
   abbrev pub nets-fault : ℕ → ℕ → Option Fault
-  nets-fault modules n = first-of (λ i. net-fault modules (net-bit bytes i)) n
+  nets-fault modules n = first-fault (λ i. net-fault modules (net-bit bytes i)) n
 
   -- after the last net: a pad bit that is set, else a byte that follows
   unfoldable pub pad-fault : ℕ → Option Fault
   pad-fault end =
-      or-else (first-of (λ k. refuse-if (eqb (bit-at bytes (end + k)) 1) (AfterLastNet (end + k))) (8 * bytes-to end - end))
-      (refuse-if (ltb (bytes-to end) (length bytes)) (AfterLastNet (8 * bytes-to end)))
+      or-else (first-fault (λ k. fault-if (eqb (bit-at bytes (end + k)) 1) (AfterLastNet (end + k))) (8 * bytes-to end - end))
+      (fault-if (ltb (bytes-to end) (length bytes)) (AfterLastNet (8 * bytes-to end)))
 
   -- the page itself, where a kind is wanted
   unfoldable pub page-fault : ℕ → Option Fault

@@ -12,7 +12,8 @@ use Rattle.price.specs.Widest as third
 use Rattle.page.specs.declared.known.KnownKind.{KnownKind}
 use Rattle.page.specs.declared.known.KnownKind.the-variants.{Wires, TimersFirst, Widest}
 use Rattle.page.specs.Layout.{kind-field}
-use Rattle.page.specs.Faults.{or-else, refuse-if, ends}
+use Rattle.refusal.specs.Checks.{or-else, fault-if}
+use Rattle.page.specs.Faults.{ends}
 
 abbrev pub known-number : KnownKind → ℕ
 known-number Wires = first.wires .number
@@ -24,4 +25,4 @@ is-known n = eqb n (known-number Wires) || (eqb n (known-number TimersFirst) || 
 
 -- the page ends inside its kind, or names no known one
 abbrev pub known-fault : List ℕ → Option Fault
-known-fault bytes = or-else (ends bytes 0 4) (refuse-if (not (is-known (kind-field bytes))) (OtherKind 0))
+known-fault bytes = or-else (ends bytes 0 4) (fault-if (not (is-known (kind-field bytes))) (OtherKind 0))

@@ -5,7 +5,8 @@ ghost use lib.ListN.{length};
 ghost use Rattle.std.specs.Results.{Cases};
 ghost use Rattle.std.specs.declared.option.Option.the-variants.{Some, None};
 ghost use Rattle.page.specs.Layout.{modules-field, nets-field, pin as pin-of, pin-bit, pin-count, net-end, net-bit, pins-table};
-ghost use Rattle.page.specs.Faults.{among, pin-fault, first-of, net-fault, nets-fault, header-fault, pad-fault, room-fault, unpack-fault};
+ghost use Rattle.refusal.specs.Checks.{first-fault};
+ghost use Rattle.page.specs.Faults.{among, pin-fault, net-fault, nets-fault, header-fault, pad-fault, room-fault, unpack-fault};
 ghost use Rattle.page.specs.Unpacking.{Counted, Holds};
 use crate::bits::bit;
 use crate::bits::field;
@@ -71,8 +72,8 @@ fn check_pins(bytes: &[u8], at: usize, count: usize, modules: u32) -> Result<(),
     requires early { ⌜ at < 2 ^ 31 ⌝ }
     requires few { ⌜ count < 128 ⌝ }
     ensures cases { λ r. ⌜ Cases r
-        (λ _. first-of (pin-fault (now (bytes .entry)) modules at) count ≡ None)
-        (λ e. first-of (pin-fault (now (bytes .entry)) modules at) count ≡ Some e) ⌝ }
+        (λ _. first-fault (pin-fault (now (bytes .entry)) modules at) count ≡ None)
+        (λ e. first-fault (pin-fault (now (bytes .entry)) modules at) count ≡ Some e) ⌝ }
 {
     for k in 0..count {
         check_pin(bytes, at, k, modules)?;

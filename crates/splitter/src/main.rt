@@ -1,9 +1,12 @@
 //! The program: reads a page from the file bench.page and prints the netlist that it holds, or why it is refused.
 use lines::write_page_refused;
-use page::counts::Counts;
+use loading::load_unpacked;
+use netlist::Netlist;
 use page::known::KnownKind;
 use page::known::known_kind;
 use page::unpack::unpack_page;
+use pin_tables::PinTables;
+use pin_tables::questions::PinTablesNetlist;
 use price::Price;
 use price::timers_first::TimersFirstPrice;
 use price::values::TimersFirst;
@@ -41,7 +44,7 @@ fn run(rt: &LibcRuntime) -> Result<(), AnyError> {
     }
 }
 
-// Unpacks a page into tables that have room for every page, and prints what they hold.
+// Unpacks a page into tables that have room for every page, loads them, and prints the netlist.
 fn show_page<P: Price>(rt: &LibcRuntime, kind: &str, page: &[u8]) -> Result<(), AnyError> {
     let heap = rt.alloc();
     let mut starts = vec![in heap; 0u32; NETS_MOST + 1]?;
@@ -54,43 +57,45 @@ fn show_page<P: Price>(rt: &LibcRuntime, kind: &str, page: &[u8]) -> Result<(), 
         pins.as_mut_slice(),
         prices.as_mut_slice(),
     ) {
-        Ok(Counts { modules, nets, .. }) => {
-            println!(rt, "kind {kind}, modules {modules}, nets {nets}")?;
-            show_nets(
-                rt,
-                nets,
+        Ok(counts) => {
+            let mut netlist = PinTables::empty();
+            match load_unpacked(
+                &mut netlist,
+                counts,
                 starts.as_slice(),
                 pins.as_slice(),
                 prices.as_slice(),
-            )
+            ) {
+                Ok(_) => show_netlist(rt, kind, &netlist),
+                Err(fault) => show_refused(rt, fault),
+            }
         }
         Err(fault) => show_refused(rt, fault),
     }
 }
 
-// Prints the first nets of tables, a line each: the price as a print word in hexadecimal, and the pins.
-fn show_nets<P: Price>(
-    rt: &LibcRuntime,
-    nets: usize,
-    starts: &[u32],
-    pins: &[u8],
-    prices: &[P],
-) -> Result<(), AnyError> {
-    let mut from = 0;
-    for (i, (end, price)) in starts
-        .iter()
-        .skip(1)
-        .zip(prices.iter())
-        .take(nets)
-        .enumerate() {
+// Prints what a netlist answers to the questions, a line for each net.
+fn show_netlist<N: Netlist>(rt: &LibcRuntime, kind: &str, netlist: &N) -> Result<(), AnyError> {
+    let modules = netlist.module_count();
+    let nets = netlist.net_count();
+    println!(rt, "kind {kind}, modules {modules}, nets {nets}")?;
+    for net in 0..nets {
+        show_net(rt, netlist, net)?;
+    }
+    Ok(())
+}
+
+// Prints a net: its price as a print word in hexadecimal, and its pins.
+fn show_net<N: Netlist>(rt: &LibcRuntime, netlist: &N, net: usize) -> Result<(), AnyError> {
+    if let (Some(price), Some(pins)) = (netlist.price(net), netlist.pin_count(net)) {
         let word = price.print_word();
-        print!(rt, "net {i}, price {word:016x}, pins")?;
-        let to = *end as usize;
-        for pin in pins.iter().take(to).skip(from) {
-            print!(rt, " {pin}")?;
+        print!(rt, "net {net}, price {word:016x}, pins")?;
+        for k in 0..pins {
+            if let Some(pin) = netlist.pin(net, k) {
+                print!(rt, " {pin}")?;
+            }
         }
         println!(rt, "")?;
-        from = to;
     }
     Ok(())
 }

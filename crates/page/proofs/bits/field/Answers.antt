@@ -1,5 +1,5 @@
 use borrow.Author.Needs.{needs}
-use Rattle.page.proofs.FirstLaws.{holds-whole}
+use Rattle.page.proofs.FieldLaws.{holds-whole}
 use Rattle.page.proofs.bits.field.Needs as need
 
 pub returns : need.returns

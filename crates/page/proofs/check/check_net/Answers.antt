@@ -6,13 +6,14 @@ use Rattle.std.specs.declared.option.Option.the-variants.{Some, None}
 use Rattle.std.proofs.shelf.Results.{err-from-errBy}
 use Rattle.refusal.specs.declared.Fault.{Fault}
 use Rattle.page.specs.Layout.{pin-bit, pin-count, price-bit}
-use Rattle.page.specs.Faults.{ends, first-of, pin-fault, net-fault}
+use Rattle.refusal.specs.Checks.{first-fault}
+use Rattle.page.specs.Faults.{ends, pin-fault, net-fault}
 use Rattle.page.proofs.PinLaws.{net-ends, net-few, net-pin, net-price}
 use Rattle.page.proofs.check.check_net.Needs as need
 
 module _ (bytes : _) (modules at pins : ℕ) (e : pins ≡ pin-count bytes at) where
-  pins-same : (r : Option Fault) → first-of (pin-fault bytes modules at) pins ≡ r → first-of (pin-fault bytes modules at) (pin-count bytes at) ≡ r
-  pins-same r = subst (λ (n : ℕ). first-of (pin-fault bytes modules at) n ≡ r) e
+  pins-same : (r : Option Fault) → first-fault (pin-fault bytes modules at) pins ≡ r → first-fault (pin-fault bytes modules at) (pin-count bytes at) ≡ r
+  pins-same r = subst (λ (n : ℕ). first-fault (pin-fault bytes modules at) n ≡ r) e
 
   price-same : (r : Option Fault) → ends bytes (pin-bit at pins) 32 ≡ r → ends bytes (price-bit bytes at) 32 ≡ r
   price-same r = subst (λ (n : ℕ). ends bytes (pin-bit at n) 32 ≡ r) e

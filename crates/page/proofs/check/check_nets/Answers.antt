@@ -5,7 +5,7 @@ use Rattle.std.proofs.shelf.Results.{err-from-errBy}
 use Rattle.std.specs.declared.option.Option.the-variants.{Some, None}
 use Rattle.page.specs.Layout.{net-bit, pins-table}
 use Rattle.page.specs.Faults.{net-fault}
-use Rattle.page.proofs.FirstLaws.{first-none, first-more, first-at}
+use Rattle.refusal.proofs.CheckLaws.{first-none, first-more, first-at}
 use Rattle.page.proofs.TableLaws.{bit-more, count-more, pins-fit}
 use Rattle.page.proofs.check.check_nets.Needs as need
 

@@ -1,7 +1,7 @@
 use native.Mathlib.Omega.{arith}
 use Rattle.std.proofs.shelf.Results.{err-from-errBy}
 use Rattle.page.specs.Faults.{pin-fault}
-use Rattle.page.proofs.FirstLaws.{first-none, first-more, first-at}
+use Rattle.refusal.proofs.CheckLaws.{first-none, first-more, first-at}
 use Rattle.page.proofs.check.check_pins.Needs as need
 
 pub loop-k-holds : need.loop-k-holds

@@ -1,0 +1,3 @@
+pub mod BottomMeaning
+pub mod LoadFaults
+pub mod Fitting

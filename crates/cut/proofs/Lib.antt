@@ -1,0 +1,13 @@
+pub mod Members
+pub mod PinTests
+pub mod Totals
+pub mod OrderRule
+pub mod OrderFound
+pub mod PullBound
+pub mod LastTwo
+pub mod OrderSteps
+pub mod Groups
+pub mod FirstLowest
+pub mod RoundsFind
+pub mod OverModules
+pub mod SideBits

@@ -1,0 +1,10 @@
+pub mod Cuts
+pub mod CutLaws
+pub mod Lawful
+pub mod Orders
+pub mod OrderLaws
+pub mod Rounds
+pub mod SplitLaws
+pub mod ModuleRounds
+pub mod SidesWord
+pub mod Worked

@@ -1,0 +1,6 @@
+mod Nth
+mod Regrouping
+mod Placed
+mod Refused
+mod Uniting
+mod Muting

@@ -1,0 +1,4 @@
+pub mod Rows
+pub mod Layered
+pub mod Refusals
+pub mod Changed

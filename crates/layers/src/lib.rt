@@ -1,0 +1,3 @@
+//! The strap layer and the mute layer over any netlist.
+pub mod mute;
+pub mod strap;

@@ -1,0 +1,3 @@
+pub mod UnitedPlaces
+pub mod Numbering
+pub mod Straps

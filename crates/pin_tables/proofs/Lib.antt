@@ -1,0 +1,2 @@
+pub mod TablesAsked
+pub mod TablesAccepted
