@@ -1,0 +1,3 @@
+pub mod OwnNets
+pub mod PinSets
+pub mod SetLoops

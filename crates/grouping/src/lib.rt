@@ -1,0 +1,3 @@
+//! Rows of groups, and nets as sets of groups.
+pub mod masks;
+pub mod rows;

@@ -1,0 +1,4 @@
+pub mod Pulls
+pub mod Orders
+pub mod Rounds
+pub mod Splits
