@@ -9,7 +9,7 @@ pub mod questions;
 /// `row` marks the nets that this layer mutes.
 #[derive(Drop)]
 pub struct MuteLayer<N> {
-    below: N,
+    pub below: N,
     row: [bool; 1024],
     ghost long: { length row ≡ 1024 },
 }

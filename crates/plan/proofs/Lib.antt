@@ -1,0 +1,5 @@
+pub mod Changes
+pub mod Truth
+pub mod Histories
+pub mod Promised
+pub mod PlanSteps

@@ -1,0 +1,2 @@
+pub mod RunCalls
+pub mod WholeCall

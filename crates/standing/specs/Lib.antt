@@ -1,0 +1,3 @@
+pub mod Standing
+pub mod StandingSound
+pub mod LentMeaning
