@@ -8,6 +8,7 @@ use lib.ListN.{length, getD, set, take, length-take}
 use lib.Seq.{getD-set-same, getD-set-other, getD-take}
 use Rattle.std.proofs.shelf.Tests.{lt-ltb, le-ltb, cond-true, cond-false}
 use Rattle.std.proofs.shelf.Ways.{tells}
+use Rattle.std.specs.Results.{andOther}
 use Rattle.std.specs.declared.option.Option.{Option}
 use Rattle.std.specs.declared.option.Option.the-variants.{Some, None}
 use Rattle.std.specs.declared.result.Result.{Result}
@@ -19,6 +20,7 @@ use Rattle.price.specs.Kind.{Kind, Laws}
 use Rattle.netlist.specs.Meaning.{Meaning, Sound, homes}
 use Rattle.cut.specs.Rounds.{split-of}
 use Rattle.cut.specs.declared.found.FoundSplit.{FoundSplit}
+use Rattle.layers.specs.Changed.{Straps, Mutes}
 use Rattle.layers.specs.Refusals.{strap-fault, mute-fault, Checked}
 use Rattle.partition.specs.Pulls.{cleared}
 use Rattle.partition.specs.Splits.{SplitAnswer, SplitCall, split-fault}
@@ -80,23 +82,30 @@ told-refused (Some v) fault e = let z : _≡_ {A = ℕ} 0 1 = cc in omega arith
 ok-err : {X : Type 0} (x : X) (fault : Fault) → Ok x ≡ Err fault → ⊥
 ok-err x fault e = let z : _≡_ {A = ℕ} 0 1 = cc in omega arith
 
--- the checks of a strap and of a mute, one after the other
+-- two checks, one after the other
+both-checked : (f g : Option Fault) (r s : Result (Unit {0}) Fault) → Checked f r → Checked g s → Checked (or-else f g) (andOther r s)
+both-checked f g (Ok _) s first second = subst (λ z. Checked (or-else z g) s) (sym first) second
+both-checked f g (Err fault) s first second = ap (λ z. or-else z g) first
+
+-- what layers tell of a strap and of a mute
+module _ {P L : Type 0} (means : L → Meaning P) (old new : L) where
+  pub straps-checked : (a b : ℕ) (r : Result (Unit {0}) Fault) → Straps means a b old new r → Checked (strap-fault a b (means old)) r
+  straps-checked a b (Ok _) h = h .0
+  straps-checked a b (Err fault) h = h .0
+
+  pub mutes-checked : (n : ℕ) (r : Result (Unit {0}) Fault) → Mutes means n old new r → Checked (mute-fault n (means old)) r
+  mutes-checked n (Ok _) h = h .0
+  mutes-checked n (Err fault) h = h .0
+
+-- the checks of a strap and of a mute
 module _ {P : Type 0} (m : Meaning P) (cs : List Change) where
-  pub strap-first : (a b : ℕ) (fault : Fault) → strap-fault a b (applied m cs) ≡ Some fault → refusal m cs (strap a b) ≡ Some fault
+  pub strap-checked : (a b : ℕ) (r s : Result (Unit {0}) Fault) → Checked (strap-fault a b (applied m cs)) r → Checked (full-fault cs) s → Checked (refusal m cs (strap a b)) (andOther r s)
   unfolding refusal
-  strap-first a b fault e = ap (λ z. or-else z (full-fault cs)) e
+  strap-checked a b r s first second = both-checked (strap-fault a b (applied m cs)) (full-fault cs) r s first second
 
-  pub strap-then : (a b : ℕ) → strap-fault a b (applied m cs) ≡ None → refusal m cs (strap a b) ≡ full-fault cs
+  pub mute-checked : (n : ℕ) (r s : Result (Unit {0}) Fault) → Checked (mute-fault n (applied m cs)) r → Checked (full-fault cs) s → Checked (refusal m cs (mute n)) (andOther r s)
   unfolding refusal
-  strap-then a b e = ap (λ z. or-else z (full-fault cs)) e
-
-  pub mute-first : (n : ℕ) (fault : Fault) → mute-fault n (applied m cs) ≡ Some fault → refusal m cs (mute n) ≡ Some fault
-  unfolding refusal
-  mute-first n fault e = ap (λ z. or-else z (full-fault cs)) e
-
-  pub mute-then : (n : ℕ) → mute-fault n (applied m cs) ≡ None → refusal m cs (mute n) ≡ full-fault cs
-  unfolding refusal
-  mute-then n e = ap (λ z. or-else z (full-fault cs)) e
+  mute-checked n r s first second = both-checked (mute-fault n (applied m cs)) (full-fault cs) r s first second
 
   -- an accepted change finds room
   pub strap-room : (a b : ℕ) → refusal m cs (strap a b) ≡ None → length cs < 64

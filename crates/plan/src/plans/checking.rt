@@ -19,14 +19,17 @@ use refusal::Fault;
 use standing::change::Change;
 use standing::lent::questions::LentNetlist;
 
+/// How many changes a plan holds at most.
+const ROOM: usize = 64;
+
 impl<N: Netlist> Plan<N> {
     /// Whether a strap is refused.
     pub(crate) fn check_strap(&self, a: usize, b: usize) -> Result<(), Fault>
         ensures { λ r. ⌜ Checked (refusal-on (N·Netlist .meaning) (now (self .entry)) (strap-call a b)) r ⌝ }
     {
         let mut standing = self.standing();
-        standing.below.strap(a, b)?;
-        self.check_room()
+        let strapped = standing.below.strap(a, b);
+        strapped.and(self.check_room())
     }
 
     /// Whether a mute is refused.
@@ -34,15 +37,15 @@ impl<N: Netlist> Plan<N> {
         ensures { λ r. ⌜ Checked (refusal-on (N·Netlist .meaning) (now (self .entry)) (mute-call net)) r ⌝ }
     {
         let mut standing = self.standing();
-        standing.mute(net)?;
-        self.check_room()
+        let muted = standing.mute(net);
+        muted.and(self.check_room())
     }
 
     /// Whether one change more finds room.
     fn check_room(&self) -> Result<(), Fault>
         ensures { λ r. ⌜ Checked (full-fault (standing-changes (now (self .entry)))) r ⌝ }
     {
-        if self.count < 64 {
+        if self.count < ROOM {
             Ok(())
         } else {
             Err(Fault::PlanFull)

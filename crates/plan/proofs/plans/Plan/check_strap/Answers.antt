@@ -1,27 +1,20 @@
-use mathlib.Core.Path.{_≡_, refl, sym, ap, subst, _∙_}
-use Rattle.std.specs.declared.option.Option.the-variants.{Some, None}
-use Rattle.std.specs.declared.result.Result.the-variants.{Err}
-use Rattle.std.proofs.shelf.Results.{err-from-errBy}
+use mathlib.Core.Path.{sym, ap, subst, _∙_}
+use Rattle.layers.specs.Layered.{strap-meaning}
 use Rattle.layers.specs.Refusals.{strap-fault, Checked}
+use Rattle.standing.specs.LentMeaning.{lent-meaning}
 use Rattle.plan.specs.Reckoning.{strap}
 use Rattle.plan.specs.Plans.{standing-changes}
 use Rattle.plan.specs.PlanCalls.{refusal-on}
-use Rattle.plan.proofs.PlanSteps.{strap-first, strap-then}
+use Rattle.plan.proofs.PlanSteps.{straps-checked, strap-checked}
 use Rattle.plan.proofs.plans.Plan.check_strap.Needs as need
-
-pub returns-in-Break-strap : need.returns-in-Break-strap
-returns-in-Break-strap g c =
-    let plan = c .args .self .now in
-    let m = g .N·Netlist .meaning (plan .below) in
-    let fault = err-from-errBy (c .from-residual .result) (c .from-residual .ensures .1) in
-    let told = c .in-Break-strap .ensures tt .straps .0 in
-    let first = strap-first m (standing-changes plan) (c .args .a) (c .args .b) (c .in-Break-strap .field-0 .0) (ap (strap-fault (c .args .a) (c .args .b)) (sym (c .standing-standing .ensures)) ∙ told) in
-    rw (fault .1, fault .2) first
 
 pub returns : need.returns
 returns g c =
+    let means = g .N·Netlist .meaning in
     let plan = c .args .self .now in
-    let m = g .N·Netlist .meaning (plan .below) in
-    let free = c .in-Continue-strap .ensures tt .straps .0 in
-    let after = strap-then m (standing-changes plan) (c .args .a) (c .args .b) (ap (strap-fault (c .args .a) (c .args .b)) (sym (c .standing-standing .ensures)) ∙ free) in
-    subst (λ z. Checked z (c .check-room .result)) (sym after) (c .check-room .ensures)
+    let a = c .args .a in
+    let b = c .args .b in
+    let first = straps-checked (strap-meaning (lent-meaning means)) (c .standing-standing .result .below) (c .strap-strapped .last .self) a b (c .strap-strapped .result) (c .strap-strapped .ensures .straps) in
+    let first-standing = subst (λ fault. Checked fault (c .strap-strapped .result)) (ap (strap-fault a b) (c .standing-standing .ensures)) first in
+    subst (λ r. Checked (refusal-on means plan (strap a b)) r) (sym (c .and .ensures))
+    (strap-checked (means (plan .below)) (standing-changes plan) a b (c .strap-strapped .result) (c .check-room .result) first-standing (c .check-room .ensures))
