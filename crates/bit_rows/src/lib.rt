@@ -1,4 +1,6 @@
 //! Bit rows: a bottom over rows and prices of the caller's.
+#![tactic(auto)]
+
 ghost use Rattle.std.specs.Prelude.{◌≡◌, ◌≤◌, length};
 ghost use Rattle.bottom.specs.Fitting.{PinsThere};
 ghost use Rattle.bit_rows.specs.Rows.{row_pins};

@@ -1,4 +1,6 @@
 //! What the two bottoms share: their meaning, and the checks of load that need no table.
+#![tactic(auto)]
+
 ghost use Rattle.std.specs.Prelude.{◌≡◌};
 ghost use Rattle.bottom.specs.LoadFaults.{counts_fault, checked};
 

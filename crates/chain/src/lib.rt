@@ -1,4 +1,6 @@
 //! A netlist that is computed by a rule and has no tables: a chain of modules, each wired to the next by one wire.
+#![tactic(auto)]
+
 ghost use Rattle.std.specs.Prelude.{◌≤◌};
 
 pub mod questions;

@@ -1,4 +1,6 @@
 //! The tests of all the crates.
+#![tactic(auto)]
+
 #[cfg(test)]
 mod lines_tests;
 #[cfg(test)]

@@ -1,3 +1,5 @@
 //! Rows of groups, and nets as sets of groups.
+#![tactic(auto)]
+
 pub mod masks;
 pub mod rows;

@@ -19,7 +19,7 @@ pub struct Masks {
 /// The masks of all nets, so that no step asks for their pins again.
 pub fn gather<N: Netlist>(netlist: &N, row: [u8; 64]) -> Masks
     ensures same { result.row ≡ row }
-    ensures words { (i : ℕ) → i < length (meaning netlist.now).nets → PinGroups (own_nets Price-as-Price.kind (meaning netlist.now)) row i (slice_index result.words i) }
+    ensures words { (i : ℕ) → i < length (N.meaning netlist.now).nets → PinGroups (own_nets N.Price.Price.kind (N.meaning netlist.now)) row i (slice_index result.words i) }
 {
     let mut words = [0u64; 1024];
     for i in 0..netlist.net_count() {
@@ -30,7 +30,7 @@ pub fn gather<N: Netlist>(netlist: &N, row: [u8; 64]) -> Masks
 
 /// The groups of a net's pins.
 fn net_mask<N: Netlist>(netlist: &N, net: usize, row: [u8; 64]) -> ModuleSet
-    ensures { PinGroups (own_nets Price-as-Price.kind (meaning netlist.now)) row net result.word }
+    ensures { PinGroups (own_nets N.Price.Price.kind (N.meaning netlist.now)) row net result.word }
 {
     let mut mask = ModuleSet::empty();
     for k in 0..64 {

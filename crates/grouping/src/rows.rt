@@ -1,7 +1,7 @@
 //! Rows of groups: for each of 64 modules the number of its group, passed on by value.
 ghost use Rattle.std.specs.Prelude.{◌≡◌, ℕ, ◌<◌, length};
 ghost use Rattle.moduleset.specs.Words.{has as is_in};
-ghost use Rattle.netlist.specs.Places.{place as IsPlace-in};
+ghost use Rattle.netlist.specs.Places.{place as place_in};
 ghost use Rattle.netlist.specs.Changes.{united_place_lem as united_place_of, united};
 ghost use Rattle.cut.specs.Cuts.{alone};
 
@@ -9,8 +9,8 @@ use moduleset::ModuleSet;
 
 /// Each module a group of its own.
 pub fn singles() -> [u8; 64]
-    ensures own { (v : ℕ) → v < 64 → IsPlace-in result v ≡ v }
-    ensures small { (v : ℕ) → IsPlace-in result v < 64 }
+    ensures own { (v : ℕ) → v < 64 → place_in result v ≡ v }
+    ensures small { (v : ℕ) → place_in result v < 64 }
     ensures long { length result ≡ 64 }
 {
     let mut row = [0u8; 64];
@@ -47,7 +47,7 @@ fn united_place(a: u8, b: u8, place: u8) -> u8
 
 /// The modules of a group.
 pub fn group_set(row: [u8; 64], group: u8) -> ModuleSet
-    ensures { (v : ℕ) → v < 64 → is_in result.word v ≡ alone group (IsPlace-in row v) }
+    ensures { (v : ℕ) → v < 64 → is_in result.word v ≡ alone group (place_in row v) }
 {
     let mut set = ModuleSet::empty();
     for v in 0..64u8 {

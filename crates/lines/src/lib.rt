@@ -1,4 +1,6 @@
 //! The lines that the program writes into a caller's buffer.
+#![tactic(auto)]
+
 ghost use Rattle.std.specs.Prelude.{◌≡◌, ◌+◌, ◌<◌, ◌≤◌, [], ◌∷◌, length, decimal};
 ghost use Rattle.lines.specs.Lines.{Put, Written, hex_digit, hex_digits, page_line};
 

@@ -1,4 +1,6 @@
 //! From a page's tables to a netlist: what is unpacked always loads.
+#![tactic(auto)]
+
 ghost use Rattle.std.specs.Prelude.{◌≡◌, ℕ, ◌<◌, ◌≤◌, List, length, Some, None};
 ghost use Rattle.bottom.specs.LoadFaults.{Loads};
 ghost use Rattle.pin_tables.specs.Means.{means};
@@ -23,7 +25,7 @@ pub fn load_unpacked<'a, P: Price>(
 ) -> Result<(), Fault>
     ensures loads { Loads means (counted_fault counts starts.now pins.now prices.now)
         (counted_meaning counts starts.now pins.now prices.now) tables.old tables.new result }
-    ensures pages { LoadsPages kind counts starts.now pins.now prices.now (means tables.new) result }
+    ensures pages { LoadsPages P.kind counts starts.now pins.now prices.now (means tables.new) result }
 {
     load_counted(tables, counts, starts, pins, prices)
 }

@@ -1,4 +1,6 @@
 //! Sets of modules below 64, one bit a module, module 0 the most significant.
+#![tactic(auto)]
+
 ghost use Rattle.std.specs.Prelude.{◌≡◌, ℕ, ◌<◌, true, false, not, ◌&&◌, ◌||◌, length, Decides, ◌==◌, nat_le};
 ghost use Rattle.std.specs.List.{slice_get};
 ghost use Rattle.moduleset.specs.Words.{has as is_in, members, lone};

@@ -1,4 +1,6 @@
 //! Netlists: the questions that every implementation answers, and what the answers mean.
+#![tactic(auto)]
+
 ghost use Rattle.std.specs.Prelude.{◌≡◌, length};
 ghost use Rattle.std.specs.List.{slice_get};
 ghost use Rattle.netlist.specs.Meaning.{Meaning, Sound, homes, modules, own_nets};

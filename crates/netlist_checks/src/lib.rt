@@ -1,4 +1,6 @@
 //! The tests of the netlists: the two bottoms and the layers.
+#![tactic(auto)]
+
 #[cfg(test)]
 mod bottom_tests;
 #[cfg(test)]

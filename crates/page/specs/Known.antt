@@ -13,7 +13,7 @@ use Rattle.page.specs.Faults.{ends}
 
 abbrev pub known_number : KnownKind → ℕ
 known_number Wires = (first.wires).number
-known_number TimersFirst = (second.timers-first).number
+known_number TimersFirst = (second.timers_first).number
 known_number Widest = (third.widest).number
 
 abbrev pub is_known : ℕ → Bool

@@ -40,7 +40,7 @@ fn fill_net<P: Price>(
     ensures starts { starts.new ≡ slice_set starts.old (i + 1) (total + pin_count bytes.now at) }
     ensures pins { pins.new ≡ (take total pins.old ++ net_pins bytes.now at (pin_count bytes.now at))
         ++ drop (total + pin_count bytes.now at) pins.old }
-    ensures prices { prices.new ≡ slice_set prices.old i (kind.field (price_field bytes.now at)) }
+    ensures prices { prices.new ≡ slice_set prices.old i (P.kind.field (price_field bytes.now at)) }
 {
     let count = value(bytes, at, 7) as usize;
     fill_pins(bytes, at, count, pins, total);
@@ -68,7 +68,7 @@ pub(crate) fn fill_nets<P: Price>(
     ensures value { result ≡ length (pins_table bytes.now nets) }
     ensures starts { Extends (starts_table bytes.now nets) starts.old starts.new }
     ensures pins { Extends (pins_table bytes.now nets) pins.old pins.new }
-    ensures prices { Extends (prices_table bytes.now kind nets) prices.old prices.new }
+    ensures prices { Extends (prices_table bytes.now P.kind nets) prices.old prices.new }
 {
     starts[0] = 0;
     let mut at = 22;

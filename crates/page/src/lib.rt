@@ -1,4 +1,6 @@
 //! Pages: netlists packed into bits, most significant first, and how they are unpacked.
+#![tactic(auto)]
+
 mod bits;
 mod check;
 pub mod counts;

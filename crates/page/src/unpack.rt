@@ -18,7 +18,7 @@ pub fn unpack_page<P: Price>(
     pins: &mut [u8],
     prices: &mut [P],
 ) -> Result<Counts, Fault>
-    ensures { Unpacks kind bytes.now result
+    ensures { Unpacks P.kind bytes.now result
         starts.old starts.new pins.old pins.new prices.old prices.new }
 {
     let room = Room {

@@ -142,7 +142,7 @@ module _ {P : Type 0} (k : Kind P) (nets : List (Net P)) where
       → SameSplit noted (round_noted k nets g row) → next ≡ round_row k nets g row → new ≡ cheaper k best noted → Kept count (i + 1) new next
   kept_more count i g best noted new row next h q a s e c = record {
     start = a.start;
-    start_alone = a.start-alone;
+    start_alone = a.start_alone;
     ideal = cheaper k a.ideal (round_noted k nets g row);
     same = subst (λ x. SameSplit x (cheaper k a.ideal (round_noted k nets g row))) (sym c) (cheaper_same best a.ideal noted (round_noted k nets g row) a.same s);
     rest = λ n j w z.
@@ -159,7 +159,7 @@ module _ {P : Type 0} (k : Kind P) (nets : List (Net P)) where
   pub kept_end : (count i : ℕ) (best : Split P) (row : List ℕ) → i ≡ count → Kept count i best row → FoundOver k nets count best
   kept_end count i best row e a = record {
     row = a.start;
-    alone = a.start-alone;
+    alone = a.start_alone;
     by_modules = a.ideal;
     found = λ n q. a.rest n 0 q (omega arith) ∙ ap Some (none_counted a.ideal row);
     same = a.same;

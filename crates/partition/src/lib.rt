@@ -1,4 +1,6 @@
 //! The order of a netlist's modules, and its cheapest split.
+#![tactic(auto)]
+
 pub mod ordering;
 mod pull_row;
 mod rounds;

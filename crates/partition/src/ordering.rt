@@ -18,8 +18,8 @@ pub fn order<N: Netlist>(
     cells: &mut [N::Price],
     bytes: &mut [u8],
 ) -> Result<N::Price, Fault>
-    ensures call { OrderCall N.Price.Price.kind (meaning netlist.now) cells.old cells.new bytes.old bytes.new result }
-    ensures last { LastTwoParted N.Price.Price.kind (meaning netlist.now) }
+    ensures call { OrderCall N.Price.Price.kind (N.meaning netlist.now) cells.old cells.new bytes.old bytes.new result }
+    ensures last { LastTwoParted N.Price.Price.kind (N.meaning netlist.now) }
 {
     let count = netlist.module_count();
     if cells.len() < count {

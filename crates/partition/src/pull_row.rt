@@ -25,7 +25,7 @@ impl<'a, P: Price> PullRow<'a, P> {
     /// Zero in the first `count` cells; later ones stay.
     pub(crate) fn clear(&mut self, count: usize)
         requires { count ≤ length self.old.cells.now }
-        ensures cells { self.new.cells.now ≡ cleared kind count self.old.cells.now }
+        ensures cells { self.new.cells.now ≡ cleared P.kind count self.old.cells.now }
         ensures same { self.new.cells.ghost_name ≡ self.old.cells.ghost_name }
         ensures taken { self.new.taken ≡ self.old.taken }
     {
@@ -35,7 +35,7 @@ impl<'a, P: Price> PullRow<'a, P> {
     /// Joins a price onto the key of a module.
     pub(crate) fn join_onto(&mut self, v: u8, price: P)
         requires { v < length self.old.cells.now }
-        ensures cells { self.new.cells.now ≡ slice_set self.old.cells.now v (kind.join (key_in kind self.old.cells.now v) price) }
+        ensures cells { self.new.cells.now ≡ slice_set self.old.cells.now v (P.kind.join (key_in P.kind self.old.cells.now v) price) }
         ensures same { self.new.cells.ghost_name ≡ self.old.cells.ghost_name }
         ensures taken { self.new.taken ≡ self.old.taken }
     {
@@ -46,7 +46,7 @@ impl<'a, P: Price> PullRow<'a, P> {
     /// The key of a module.
     pub(crate) fn key(&self, v: u8) -> P
         requires { v < length self.now.cells.now }
-        ensures { result ≡ key_in kind self.now.cells.now v }
+        ensures { result ≡ key_in P.kind self.now.cells.now v }
     {
         key_of(&*self.cells, v)
     }
@@ -54,7 +54,7 @@ impl<'a, P: Price> PullRow<'a, P> {
     /// The waiting module with the greatest key, the lowest on equal keys.
     fn greatest_waiting(&self) -> Option<u8>
         requires { WaitBelow self.now.taken.word (length self.now.cells.now) }
-        ensures { MatchOption result ((v : ℕ) → v < 64 → is_in self.now.taken.word v ≡ true) (λ v. Greatest kind (key_in kind self.now.cells.now) self.now.taken.word 64 v) }
+        ensures { MatchOption result ((v : ℕ) → v < 64 → is_in self.now.taken.word v ≡ true) (λ v. Greatest P.kind (key_in P.kind self.now.cells.now) self.now.taken.word 64 v) }
     {
         let taken = self.taken;
         greatest(&*self.cells, taken)
@@ -63,7 +63,7 @@ impl<'a, P: Price> PullRow<'a, P> {
     /// Takes the waiting module with the greatest key, the lowest on equal keys.
     pub(crate) fn take_greatest(&mut self) -> Option<u8>
         requires { WaitBelow self.old.taken.word (length self.old.cells.now) }
-        ensures took { TakesGreatest kind (key_in kind self.old.cells.now) self.old.taken.word self.new.taken.word result }
+        ensures took { TakesGreatest P.kind (key_in P.kind self.old.cells.now) self.old.taken.word self.new.taken.word result }
         ensures cells { self.new.cells.now ≡ self.old.cells.now }
         ensures same { self.new.cells.ghost_name ≡ self.old.cells.ghost_name }
     {
@@ -79,7 +79,7 @@ impl<'a, P: Price> PullRow<'a, P> {
 /// Zero in the first `count` cells; later ones stay.
 pub(crate) fn clear<P: Price>(cells: &mut [P], count: usize)
     requires { count ≤ length cells.old }
-    ensures { cells.new ≡ cleared kind count cells.old }
+    ensures { cells.new ≡ cleared P.kind count cells.old }
 {
     for i in 0..count {
         cells[i] = P::zero();
@@ -89,7 +89,7 @@ pub(crate) fn clear<P: Price>(cells: &mut [P], count: usize)
 /// Of the modules that are not taken the one with the greatest key, the lowest on equal keys.
 fn greatest<P: Price>(cells: &[P], taken: ModuleSet) -> Option<u8>
     requires { WaitBelow taken.word (length cells.now) }
-    ensures { MatchOption result ((v : ℕ) → v < 64 → is_in taken.word v ≡ true) (λ v. Greatest kind (key_in kind cells.now) taken.word 64 v) }
+    ensures { MatchOption result ((v : ℕ) → v < 64 → is_in taken.word v ≡ true) (λ v. Greatest P.kind (key_in P.kind cells.now) taken.word 64 v) }
 {
     let Some(first) = ModuleSet::at_or_past(0).minus(taken).lowest() else {
         return None;
@@ -107,7 +107,7 @@ fn greatest<P: Price>(cells: &[P], taken: ModuleSet) -> Option<u8>
 fn greater_of<P: Price>(cells: &[P], v: u8, w: u8) -> u8
     requires first { v < length cells.now }
     requires second { w < length cells.now }
-    ensures { result ≡ (if kind.less (key_in kind cells.now v) (key_in kind cells.now w) then w else v) }
+    ensures { result ≡ (if P.kind.less (key_in P.kind cells.now v) (key_in P.kind cells.now w) then w else v) }
 {
     if key_of(cells, v).less(key_of(cells, w)) {
         w
@@ -119,7 +119,7 @@ fn greater_of<P: Price>(cells: &[P], v: u8, w: u8) -> u8
 /// The key of a module.
 fn key_of<P: Price>(cells: &[P], v: u8) -> P
     requires { v < length cells.now }
-    ensures { result ≡ key_in kind cells.now v }
+    ensures { result ≡ key_in P.kind cells.now v }
 {
     cells[v as usize]
 }

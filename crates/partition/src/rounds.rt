@@ -25,10 +25,10 @@ pub(crate) fn split_modules<N: Netlist>(
     cells: &mut [N::Price],
     count: u8,
 ) -> Noted<N::Price>
-    requires all { count ≡ modules (meaning netlist.now) }
+    requires all { count ≡ modules (N.meaning netlist.now) }
     requires two { 1 < count }
     requires room { count ≤ length cells.old }
-    ensures found { FoundOver N.Price.Price.kind (own_nets N.Price.Price.kind (meaning netlist.now)) count (by_set result.sides.word result.price) }
+    ensures found { FoundOver N.Price.Price.kind (own_nets N.Price.Price.kind (N.meaning netlist.now)) count (by_set result.sides.word result.price) }
     ensures later { drop count cells.new ≡ drop count cells.old }
 {
     let first = round(netlist, cells, singles(), count);
@@ -56,12 +56,12 @@ fn round<N: Netlist>(
     row: [u8; 64],
     count: u8,
 ) -> RoundEnd<N::Price>
-    requires row { GroupRow (modules (meaning netlist.now)) count row }
+    requires row { GroupRow (modules (N.meaning netlist.now)) count row }
     requires two { 1 < count }
     requires few { count ≤ 64 }
     requires room { count ≤ length cells.old }
-    ensures noted { SameSplit (by_set result.noted.sides.word result.noted.price) (round_noted N.Price.Price.kind (own_nets N.Price.Price.kind (meaning netlist.now)) count row) }
-    ensures next { result.row ≡ round_row N.Price.Price.kind (own_nets N.Price.Price.kind (meaning netlist.now)) count row }
+    ensures noted { SameSplit (by_set result.noted.sides.word result.noted.price) (round_noted N.Price.Price.kind (own_nets N.Price.Price.kind (N.meaning netlist.now)) count row) }
+    ensures next { result.row ≡ round_row N.Price.Price.kind (own_nets N.Price.Price.kind (N.meaning netlist.now)) count row }
     ensures cells { cells.new ≡ cleared N.Price.Price.kind count cells.old }
 {
     let masks = gather(netlist, row);
@@ -80,7 +80,7 @@ fn round<N: Netlist>(
 
 /// The cheaper of two splits, the first on equal prices.
 fn cheaper<P: Price>(a: Noted<P>, b: Noted<P>) -> Noted<P>
-    ensures { by_set result.sides.word result.price ≡ cheaper_of kind (by_set a.sides.word a.price) (by_set b.sides.word b.price) }
+    ensures { by_set result.sides.word result.price ≡ cheaper_of P.kind (by_set a.sides.word a.price) (by_set b.sides.word b.price) }
 {
     if b.price.less(a.price) { b } else { a }
 }

@@ -1,7 +1,7 @@
 //! The cheapest split of a netlist.
 ghost use Rattle.std.specs.Prelude.{◌≡◌, ℕ, ◌<◌, ◌&&◌, nat_lt};
 ghost use Rattle.moduleset.specs.Words.{has as is_in};
-ghost use Rattle.netlist.specs.Places.{place as IsPlace-in};
+ghost use Rattle.netlist.specs.Places.{place as place_in};
 ghost use Rattle.netlist.specs.Meaning.{homes as homes_of};
 ghost use Rattle.partition.specs.Splits.{SplitCall};
 
@@ -18,7 +18,7 @@ use refusal::Fault;
 ///
 /// Refuses where the cells are fewer than the home modules, and then where fewer than two groups are left; the cells are left as they were.
 pub fn split<N: Netlist>(netlist: &N, cells: &mut [N::Price]) -> Result<FoundSplit<N::Price>, Fault>
-    ensures { SplitCall N.Price.Price.kind (meaning netlist.now) cells.old cells.new result }
+    ensures { SplitCall N.Price.Price.kind (N.meaning netlist.now) cells.old cells.new result }
 {
     let homes = netlist.home_count();
     let count = netlist.module_count();
@@ -38,7 +38,7 @@ pub fn split<N: Netlist>(netlist: &N, cells: &mut [N::Price]) -> Result<FoundSpl
 
 /// The home modules of a set of modules.
 fn home_set<N: Netlist>(netlist: &N, sides: ModuleSet) -> ModuleSet
-    ensures { (i : ℕ) → i < 64 → is_in result.word i ≡ (nat_lt i (homes_of (meaning netlist.now)) && is_in sides.word (IsPlace-in (meaning netlist.now).places i)) }
+    ensures { (i : ℕ) → i < 64 → is_in result.word i ≡ (nat_lt i (homes_of (N.meaning netlist.now)) && is_in sides.word (place_in (N.meaning netlist.now).places i)) }
 {
     let mut set = ModuleSet::empty();
     for i in 0..netlist.home_count() {

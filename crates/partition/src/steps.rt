@@ -21,15 +21,15 @@ pub(crate) fn order_groups<N: Netlist>(
     masks: &Masks,
     count: u8,
 ) -> N::Price
-    requires masks { MasksOf masks.now.words (grouped N.Price.Price.kind (meaning netlist.now) masks.now.row) }
-    requires there { OnPins (All (λ pin. pin < count)) (grouped N.Price.Price.kind (meaning netlist.now) masks.now.row) }
+    requires masks { MasksOf masks.now.words (grouped N.Price.Price.kind (N.meaning netlist.now) masks.now.row) }
+    requires there { OnPins (All (λ pin. pin < count)) (grouped N.Price.Price.kind (N.meaning netlist.now) masks.now.row) }
     requires two { 1 < count }
     requires few { count ≤ 64 }
     requires room { count ≤ length cells.old }
     requires long { count ≤ length bytes.old }
-    ensures order { bytes.new ≡ order_in N.Price.Price.kind (grouped N.Price.Price.kind (meaning netlist.now) masks.now.row) count ++ drop count bytes.old }
+    ensures order { bytes.new ≡ order_in N.Price.Price.kind (grouped N.Price.Price.kind (N.meaning netlist.now) masks.now.row) count ++ drop count bytes.old }
     ensures cells { cells.new ≡ cleared N.Price.Price.kind count cells.old }
-    ensures price { result ≡ split_price N.Price.Price.kind (alone (ending (order_in N.Price.Price.kind (grouped N.Price.Price.kind (meaning netlist.now) masks.now.row) count)).last) (grouped N.Price.Price.kind (meaning netlist.now) masks.now.row) }
+    ensures price { result ≡ split_price N.Price.Price.kind (alone (ending (order_in N.Price.Price.kind (grouped N.Price.Price.kind (N.meaning netlist.now) masks.now.row) count)).last) (grouped N.Price.Price.kind (N.meaning netlist.now) masks.now.row) }
 {
     bytes[0] = 0;
     let mut row = PullRow::new(cells, ModuleSet::at_or_past(count as usize).with(0));
@@ -52,11 +52,11 @@ fn take_next<N: Netlist>(
     masks: &Masks,
     count: u8,
 ) -> Option<u8>
-    requires masks { MasksOf masks.now.words (grouped N.Price.Price.kind (meaning netlist.now) masks.now.row) }
+    requires masks { MasksOf masks.now.words (grouped N.Price.Price.kind (N.meaning netlist.now) masks.now.row) }
     requires room { count ≤ length row.old.cells.now }
     requires within { WaitBelow row.old.taken.word count }
-    ensures took { TakesGreatest N.Price.Price.kind (pulled N.Price.Price.kind (grouped N.Price.Price.kind (meaning netlist.now) masks.now.row) row.old.taken.word) row.old.taken.word row.new.taken.word result }
-    ensures keys { KeysArePulls N.Price.Price.kind (grouped N.Price.Price.kind (meaning netlist.now) masks.now.row) row.old.taken.word row.new.cells.now }
+    ensures took { TakesGreatest N.Price.Price.kind (pulled N.Price.Price.kind (grouped N.Price.Price.kind (N.meaning netlist.now) masks.now.row) row.old.taken.word) row.old.taken.word row.new.taken.word result }
+    ensures keys { KeysArePulls N.Price.Price.kind (grouped N.Price.Price.kind (N.meaning netlist.now) masks.now.row) row.old.taken.word row.new.cells.now }
     ensures later { drop count row.new.cells.now ≡ drop count row.old.cells.now }
     ensures long { length row.new.cells.now ≡ length row.old.cells.now }
     ensures same { row.new.cells.ghost_name ≡ row.old.cells.ghost_name }
@@ -68,10 +68,10 @@ fn take_next<N: Netlist>(
 
 /// Joins every net's price onto the key of the module at which the net pulls.
 fn join_nets<N: Netlist>(netlist: &N, row: &mut PullRow<'_, N::Price>, masks: &Masks)
-    requires masks { MasksOf masks.now.words (grouped N.Price.Price.kind (meaning netlist.now) masks.now.row) }
+    requires masks { MasksOf masks.now.words (grouped N.Price.Price.kind (N.meaning netlist.now) masks.now.row) }
     requires room { WaitBelow row.old.taken.word (length row.old.cells.now) }
     requires zero { KeysAreZero N.Price.Price.kind row.old.taken.word row.old.cells.now }
-    ensures keys { KeysArePulls N.Price.Price.kind (grouped N.Price.Price.kind (meaning netlist.now) masks.now.row) row.old.taken.word row.new.cells.now }
+    ensures keys { KeysArePulls N.Price.Price.kind (grouped N.Price.Price.kind (N.meaning netlist.now) masks.now.row) row.old.taken.word row.new.cells.now }
     ensures later { LaterStay row.old.taken.word row.old.cells.now row.new.cells.now }
     ensures long { length row.new.cells.now ≡ length row.old.cells.now }
     ensures same { row.new.cells.ghost_name ≡ row.old.cells.ghost_name }
@@ -88,7 +88,7 @@ fn join_nets<N: Netlist>(netlist: &N, row: &mut PullRow<'_, N::Price>, masks: &M
 /// Joins a net's price onto the key of the module at which the net pulls.
 fn join_net<P: Price>(row: &mut PullRow<'_, P>, mask: ModuleSet, price: P)
     requires { WaitBelow row.old.taken.word (length row.old.cells.now) }
-    ensures joined { (pins : List ℕ) → SetOf mask.word pins → NetJoined kind row.old.taken.word pins price row.old.cells.now row.new.cells.now }
+    ensures joined { (pins : List ℕ) → SetOf mask.word pins → NetJoined P.kind row.old.taken.word pins price row.old.cells.now row.new.cells.now }
     ensures later { LaterStay row.old.taken.word row.old.cells.now row.new.cells.now }
     ensures long { length row.new.cells.now ≡ length row.old.cells.now }
     ensures same { row.new.cells.ghost_name ≡ row.old.cells.ghost_name }

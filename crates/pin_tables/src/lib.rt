@@ -1,4 +1,6 @@
 //! Pin tables: a bottom over starts, pins and prices of the caller's.
+#![tactic(auto)]
+
 ghost use Rattle.std.specs.Prelude.{◌≡◌, ◌+◌, ◌≤◌, length};
 ghost use Rattle.bottom.specs.Fitting.{FewPins, PinsThere};
 ghost use Rattle.pin_tables.specs.Tables.{net_pins, Rising};

@@ -18,6 +18,8 @@ use Rattle.standing.specs.declared.change.Change.{Change}
 use Rattle.standing.specs.declared.change.Change.TheVariants.{Strapped}
 use Rattle.plan.specs.declared.calls.Answer.{Answer}
 use Rattle.plan.specs.declared.calls.Answer.TheVariants.{Done, Refused, Found}
+use Rattle.price.specs.declared.Price.{Ghosts as PriceGhosts}
+use Rattle.netlist.specs.declared.Netlist.{Ghosts as NetlistGhosts}
 use Rattle.plan.specs.declared.plans.Plan.{Plan}
 use Rattle.standing.specs.Standing.{applied, latest_first}
 use Rattle.plan.specs.Reckoning.{Call, strap, mute, take_back, split, look, full_fault, empty_fault, refusal, without_latest, changed, left_by, answered, found, shown_then, shown_by, told, accepted_answer, answer_by}
@@ -124,8 +126,8 @@ module _ {P : Type 0} (k : Kind P) (m : Meaning P) (cells after : List P) where
       (refl, ap (answered (homes m)) h.by_rounds ∙ ap Some (sym (ap₂ (λ s p. record { sides = s; price = p }) h.sides h.price) ∙ same), h.zeroed)
   split_found_by (Some fault) v h = absurd (ok_err v fault h.refused)
 
-module _ {N P : Type 0} (k : Kind P) (l : Laws k) (means : N → Meaning P) (sound : (n : N) → Sound (means n)) where
-  call_on : (call : Call) (before after : Plan N P) (answer : Answer P)
+module _ {N P : Type 0} {G : NetlistGhosts N P} {H : PriceGhosts P} (k : Kind P) (l : Laws k) (means : N → Meaning P) (sound : (n : N) → Sound (means n)) where
+  call_on : (call : Call) (before after : Plan N P G H) (answer : Answer P)
       → answer ≡ answer_to k (means before.below) (standing_changes before) before.shown call
       → Leaves k (means before.below) (standing_changes before) before.shown call (standing_changes after) after.shown
       → after.below ≡ before.below → ((fault : Fault) → answer ≡ Refused fault → after ≡ before) → CallOn k means call before after answer
@@ -137,14 +139,14 @@ module _ {N P : Type 0} (k : Kind P) (l : Laws k) (means : N → Meaning P) (sou
     promise = keeps_promise k l (means before.below) (sound before.below) (standing_changes before) (standing_changes after) before.shown after.shown call answer exact leaves;
   }
 
-  pub refused_on : (call : Call) (plan : Plan N P) (fault : Fault) → refusal_on means plan call ≡ Some fault → CallOn k means call plan plan (Refused fault)
+  pub refused_on : (call : Call) (plan : Plan N P G H) (fault : Fault) → refusal_on means plan call ≡ Some fault → CallOn k means call plan plan (Refused fault)
   refused_on call plan fault e =
       let f = found k (plan_meaning means plan) in
       call_on call plan plan (Refused fault) (ap (λ r. answer_by r f plan.shown call) (sym e))
       (record { changes = ap (λ r. left_by r (standing_changes plan) call) (sym e); shown = ap (λ r. shown_by r f plan.shown call) (sym e) })
       refl (λ _ _. refl)
 
-  accepted_on : (call : Call) (before after : Plan N P) (answer : Answer P) → refusal_on means before call ≡ None
+  accepted_on : (call : Call) (before after : Plan N P G H) (answer : Answer P) → refusal_on means before call ≡ None
       → answer ≡ accepted_answer (found k (plan_meaning means before)) before.shown call
       → standing_changes after ≡ changed (standing_changes before) call → after.shown ≡ shown_then (found k (plan_meaning means before)) before.shown call
       → after.below ≡ before.below → ((fault : Fault) → answer ≡ Refused fault → after ≡ before) → CallOn k means call before after answer
@@ -155,11 +157,11 @@ module _ {N P : Type 0} (k : Kind P) (l : Laws k) (means : N → Meaning P) (sou
       below stays
 
   -- a refused change, take back or split, by its result
-  pub change_refused : (call : Call) (plan : Plan N P) (fault : Fault) (r : Result (Unit {0}) Fault) → refusal_on means plan call ≡ Some fault → r ≡ Err fault
+  pub change_refused : (call : Call) (plan : Plan N P G H) (fault : Fault) (r : Result (Unit {0}) Fault) → refusal_on means plan call ≡ Some fault → r ≡ Err fault
       → CallOn k means call plan plan (of_change r)
   change_refused call plan fault r e q = subst (λ z. CallOn k means call plan plan (of_change z)) (sym q) (refused_on call plan fault e)
 
-  module _ (before after : Plan N P) (below : after.below ≡ before.below) where
+  module _ (before after : Plan N P G H) (below : after.below ≡ before.below) where
     pub strap_done : (a b : ℕ) → refusal_on means before (strap a b) ≡ None → standing_changes after ≡ changed (standing_changes before) (strap a b) → after.shown ≡ None
         → CallOn k means (strap a b) before after Done
     strap_done a b e cs o = accepted_on (strap a b) before after Done e refl cs o below (λ fault z. absurd (done_refused fault z))
@@ -177,19 +179,19 @@ module _ {N P : Type 0} (k : Kind P) (l : Laws k) (means : N → Meaning P) (sou
     split_done cells v e f cs o =
         accepted_on (split cells) before after (Found v) e (ap told (sym f)) cs (o ∙ sym f) below (λ fault z. absurd (told_refused (Some v) fault z))
 
-  pub look_on : (plan : Plan N P) → CallOn k means look plan plan (told plan.shown)
+  pub look_on : (plan : Plan N P G H) → CallOn k means look plan plan (told plan.shown)
   look_on plan = accepted_on look plan plan (told plan.shown) (look_free (means plan.below) (standing_changes plan)) refl refl refl refl (λ fault z. refl)
 
   -- the refusal of a split on a plan is that of the call over the standing netlist
-  pub split_refusal : (plan : Plan N P) (cells : ℕ) → refusal_on means plan (split cells) ≡ split_fault (plan_meaning means plan) cells
+  pub split_refusal : (plan : Plan N P G H) (cells : ℕ) → refusal_on means plan (split cells) ≡ split_fault (plan_meaning means plan) cells
   unfolding refusal
   split_refusal plan cells = refl
 
-  pub split_cells_stay : (plan : Plan N P) (fault : Fault) (n : ℕ) (cells after : List P) → refusal_on means plan (split n) ≡ Some fault → after ≡ cells
+  pub split_cells_stay : (plan : Plan N P G H) (fault : Fault) (n : ℕ) (cells after : List P) → refusal_on means plan (split n) ≡ Some fault → after ≡ cells
       → after ≡ cells_left k (refusal_on means plan (split n)) (homes (means plan.below)) cells
   split_cells_stay plan fault n cells after e stay = stay ∙ ap (λ r. cells_left k r (homes (means plan.below)) cells) (sym e)
 
-  pub split_cells_zeroed : (plan : Plan N P) (n : ℕ) (cells after : List P) → refusal_on means plan (split n) ≡ None → after ≡ cleared k (homes (plan_meaning means plan)) cells
+  pub split_cells_zeroed : (plan : Plan N P G H) (n : ℕ) (cells after : List P) → refusal_on means plan (split n) ≡ None → after ≡ cleared k (homes (plan_meaning means plan)) cells
       → after ≡ cells_left k (refusal_on means plan (split n)) (homes (means plan.below)) cells
   split_cells_zeroed plan n cells after e zeroed =
       zeroed

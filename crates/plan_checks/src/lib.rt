@@ -1,4 +1,6 @@
 //! The tests of plans and runs.
+#![tactic(auto)]
+
 #[cfg(test)]
 mod plan_tests;
 #[cfg(test)]

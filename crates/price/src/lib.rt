@@ -1,4 +1,6 @@
 //! Price kinds: what a kind of price owes, and the three kinds.
+#![tactic(auto)]
+
 ghost use Rattle.std.specs.Prelude.{◌≡◌, ◌<◌};
 ghost use Rattle.price.specs.Kind.{Kind, Laws};
 

@@ -27,7 +27,7 @@ pub fn answer_page<P: Price>(
     cells: &mut [P],
     out: &mut [u8],
 ) -> Result<usize, Fault>
-    ensures { AnswerPage kind page.now script.now starts.old starts.new pins.old pins.new prices.old prices.new
+    ensures { AnswerPage P.kind page.now script.now starts.old starts.new pins.old pins.new prices.old prices.new
         cells.old cells.new out.old out.new result }
 {
     match unpack_page(page, starts, pins, prices) {
@@ -46,7 +46,7 @@ fn answer_script<'a, P: Price>(
     cells: &mut [P],
     out: &mut [u8],
 ) -> Result<usize, Fault>
-    ensures { ScriptOn kind counts starts.now pins.now prices.now script.now cells.old cells.new out.old out.new result }
+    ensures { ScriptOn P.kind counts starts.now pins.now prices.now script.now cells.old cells.new out.old out.new result }
 {
     if script.len() > SCRIPT_MOST {
         return write_line(Line::ScriptTooLong, out);

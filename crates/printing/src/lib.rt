@@ -1,4 +1,6 @@
 //! What the program prints of a page and a script.
+#![tactic(auto)]
+
 pub mod answering;
 pub mod kinds;
 pub mod printing;

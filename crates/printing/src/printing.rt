@@ -17,7 +17,7 @@ const PINS_MOST: usize = HOMES_MOST * NETS_MOST;
 
 /// All that the program prints of a page of one price kind and a script. The tables have room for every page.
 pub fn print_page<P: Price>(heap: Global, page: &[u8], script: &[u8]) -> Result<Vec<u8>, AllocError>
-    ensures { IfOk result (λ printed. PrintedIn kind page.now script.now printed.items) }
+    ensures { IfOk result (λ printed. PrintedIn P.kind page.now script.now printed.items) }
 {
     let mut starts = vec![in heap; 0u32; NETS_MOST + 1]?;
     let mut pins = vec![in heap; 0u8; PINS_MOST]?;
@@ -55,7 +55,7 @@ fn answer_into<P: Price>(
     requires cells { length cells.old ≡ 64 }
     requires line { 37 ≤ length out.old }
     requires lines { length script.now ≤ 65536 → 37 * length (lines_of script.now) ≤ length out.old }
-    ensures { PrintedIn kind page.now script.now (take result out.new) }
+    ensures { PrintedIn P.kind page.now script.now (take result out.new) }
 {
     match answer_page(page, script, starts, pins, prices, cells, out) {
         Ok(count) => count,

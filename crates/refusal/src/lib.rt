@@ -1,4 +1,6 @@
 //! Why a call refuses and where: one case for each of the eighteen refusals.
+#![tactic(auto)]
+
 ghost use Rattle.std.specs.Prelude.{◌≡◌};
 ghost use Rattle.refusal.specs.Faults.{number as number_of_lem, place as place_of, place_number};
 

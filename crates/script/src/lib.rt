@@ -1,4 +1,6 @@
 //! A script: its lines, and the commands that they say.
+#![tactic(auto)]
+
 pub mod commands;
 mod numbers;
 pub mod parsing;

@@ -1,4 +1,6 @@
 //! The program: reads a page from the file bench.page and a script from standard input, and prints what the script's lines are told.
+#![tactic(auto)]
+
 use printing::kinds::print_all;
 use std::fs::File;
 use std::io;

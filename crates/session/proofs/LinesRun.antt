@@ -5,6 +5,8 @@ use Rattle.std.proofs.lemmas.List.{length-append, length-take-le, length-drop, t
 use Rattle.std.proofs.lemmas.Slice.{take-put_mid_below}
 use Rattle.price.specs.Kind.{Kind}
 use Rattle.netlist.specs.Meaning.{Meaning}
+use Rattle.price.specs.declared.Price.{Ghosts as PriceGhosts}
+use Rattle.netlist.specs.declared.Netlist.{Ghosts as NetlistGhosts}
 use Rattle.plan.specs.declared.plans.Plan.{Plan}
 use Rattle.lines.specs.Lines.{Written}
 use Rattle.script.specs.declared.commands.Command.{Command}
@@ -29,7 +31,7 @@ put_part {at} {count} {out} {part} {part'} {line} room part_is long w =
           ∙ ap (λ xs. line ++ xs) (drop_of_front count 37 (drop at out) (omega (arith, w.1)) (omega (arith, length-drop at out)) ∙ drop-drop count at out);
     }
 
-line_at : {N P : Type 0} {k : Kind P} {means : N → Meaning P} {line : List ℕ} {before after : Plan N P} {cells cells' : List P} (at count : ℕ) (out part part' : List ℕ)
+line_at : {N P : Type 0} {G : NetlistGhosts N P} {H : PriceGhosts P} {k : Kind P} {means : N → Meaning P} {line : List ℕ} {before after : Plan N P G H} {cells cells' : List P} (at count : ℕ) (out part part' : List ℕ)
     → at + 37 ≤ length out → part ≡ take 37 (drop at out) → length part' ≡ 37 → LineRun k means line before after cells cells' part part' (Ok count)
     → LineAt k means line before after cells cells' at out (put_mid at 37 out part') (at + count)
 line_at {N} {P} {k} {means} {line} {before} {after} {cells} {cells'} at count out part part' room part_is long run =
@@ -41,7 +43,7 @@ line_at {N} {P} {k} {means} {line} {before} {after} {cells} {cells'} at count ou
     put_at None o = record { plan_stays = o.plan_stays; cells_stay = o.cells_stay; put = put_part room part_is long o.written }
 
 -- the same of a part that is 37 bytes wide
-pub line_put_at : {N P : Type 0} {k : Kind P} {means : N → Meaning P} {line : List ℕ} {before after : Plan N P} {cells cells' : List P} (at count width : ℕ) (out part' : List ℕ)
+pub line_put_at : {N P : Type 0} {G : NetlistGhosts N P} {H : PriceGhosts P} {k : Kind P} {means : N → Meaning P} {line : List ℕ} {before after : Plan N P G H} {cells cells' : List P} (at count width : ℕ) (out part' : List ℕ)
     → width ≡ 37 → at + 37 ≤ length out → length part' ≡ 37 → RunLine k means line before after cells cells' (take width (drop at out)) part' (Ok count)
     → LineAt k means line before after cells cells' at out (put_mid at width out part') (at + count)
 line_put_at {N} {P} {k} {means} {line} {before} {after} {cells} {cells'} at count width out part' wide room long =
@@ -49,7 +51,7 @@ line_put_at {N} {P} {k} {means} {line} {before} {after} {cells} {cells'} at coun
     (λ run. line_at at count out (take 37 (drop at out)) part' room refl long (run.long (omega (arith, length-take-le 37 (drop at out) (omega (arith, length-drop at out))))))
 
 -- a line's answer has at most 37 bytes
-pub next_near : {N P : Type 0} {k : Kind P} {means : N → Meaning P} {line : List ℕ} {before after : Plan N P} {cells cells' : List P} {at next : ℕ} {out out' : List ℕ}
+pub next_near : {N P : Type 0} {G : NetlistGhosts N P} {H : PriceGhosts P} {k : Kind P} {means : N → Meaning P} {line : List ℕ} {before after : Plan N P G H} {cells cells' : List P} {at next : ℕ} {out out' : List ℕ}
     → LineAt k means line before after cells cells' at out out' next → next ≤ at + 37
 next_near {N} {P} {k} {means} {line} {before} {after} {cells} {cells'} {at} {next} {out} {out'} run = near run.found run.outcome
   where

@@ -3,6 +3,8 @@ use Rattle.std.proofs.Common.{◌≡◌, ℕ, ◌+◌, ◌*◌, ◌<◌, ◌≤�
 use Rattle.std.proofs.lemmas.List.{length-append, take_at, drop_at, drop-drop, take-append-drop, append-nil}
 use Rattle.price.specs.Kind.{Kind, Laws}
 use Rattle.netlist.specs.Meaning.{Meaning, Sound, homes}
+use Rattle.price.specs.declared.Price.{Ghosts as PriceGhosts}
+use Rattle.netlist.specs.declared.Netlist.{Ghosts as NetlistGhosts}
 use Rattle.plan.specs.declared.plans.Plan.{Plan}
 use Rattle.plan.specs.declared.calls.Answer.{Answer}
 use Rattle.plan.specs.Reckoning.{Call, refusal, stand}
@@ -21,7 +23,7 @@ use Rattle.session.specs.ScriptRuns.{Told, nothing, said, unsaid, ScriptWritten}
 use Rattle.session.proofs.LinesRun.{next_near}
 
 -- After some lines: the calls that they say led to the plan, and their answers are written.
-pub record SoFar {N P : Type 0} (k : Kind P) (means : N → Meaning P) (netlist : N) (script rest : List ℕ) (plan : Plan N P) (cells row : List P) (at : ℕ) (out out_now : List ℕ) : Type 0 where
+pub record SoFar {N P : Type 0} {G : NetlistGhosts N P} {H : PriceGhosts P} (k : Kind P) (means : N → Meaning P) (netlist : N) (script rest : List ℕ) (plan : Plan N P G H) (cells row : List P) (at : ℕ) (out out_now : List ℕ) : Type 0 where
   pub lines : List (List ℕ)
   pub calls : List Call
   pub answers : List (Answer P)
@@ -43,8 +45,8 @@ put_more {at} {next} {now} {next_out} {line} out bytes long written put =
     ap (λ n. drop n now) put.next_is ∙ sym (drop-drop (length line) at now) ∙ ap (drop (length line)) back ∙ drop-drop (length line) at out ∙ ap (λ n. drop n out) (sym put.next_is) in
     sym (take-append-drop at next_out) ∙ ap (λ xs. xs ++ drop at next_out) front ∙ ap (λ xs. bytes ++ xs) (put.after_is ∙ ap (λ xs. line ++ xs) later) ∙ sym (append_assoc bytes line (drop next out))
 
-module _ {N P : Type 0} (k : Kind P) (means : N → Meaning P) (netlist : N) (script : List ℕ) (cells : List P) (out : List ℕ) where
-  pub starts : (plan : Plan N P) → plan.below ≡ netlist → LedTo k means [] [] plan → 37 * length (lines_of script) ≤ length out → SoFar k means netlist script script plan cells cells 0 out out
+module _ {N P : Type 0} {G : NetlistGhosts N P} {H : PriceGhosts P} (k : Kind P) (means : N → Meaning P) (netlist : N) (script : List ℕ) (cells : List P) (out : List ℕ) where
+  pub starts : (plan : Plan N P G H) → plan.below ≡ netlist → LedTo k means [] [] plan → 37 * length (lines_of script) ≤ length out → SoFar k means netlist script script plan cells cells 0 out out
   starts plan below led room = record {
     lines = [];
     calls = [];
@@ -59,7 +61,7 @@ module _ {N P : Type 0} (k : Kind P) (means : N → Meaning P) (netlist : N) (sc
     room = omega arith;
   }
 
-  module _ (rest line rest' : List ℕ) (before after : Plan N P) (row row' : List P) (at next : ℕ) (now now' : List ℕ)
+  module _ (rest line rest' : List ℕ) (before after : Plan N P G H) (row row' : List P) (at next : ℕ) (now now' : List ℕ)
       (so_far : SoFar k means netlist script rest before cells row at out now) (first : FirstLine rest line rest') (run : LineAt k means line before after row row' at now now' next) where
     lines_parted : lines_of script ≡ (so_far.lines ++ line ∷ []) ++ lines_of rest'
     lines_parted = so_far.parted ∙ ap (λ xs. so_far.lines ++ xs) first.lines ∙ sym (append_assoc so_far.lines (line ∷ []) (lines_of rest'))
@@ -108,7 +110,7 @@ module _ {N P : Type 0} (k : Kind P) (means : N → Meaning P) (netlist : N) (sc
           room = room_left;
         }
 
-  pub ends : Laws k → Sound (means netlist) → (rest : List ℕ) (plan : Plan N P) (row : List P) (at : ℕ) (now : List ℕ) → rest ≡ [] → 37 * length (lines_of script) ≤ length out
+  pub ends : Laws k → Sound (means netlist) → (rest : List ℕ) (plan : Plan N P G H) (row : List P) (at : ℕ) (now : List ℕ) → rest ≡ [] → 37 * length (lines_of script) ≤ length out
       → SoFar k means netlist script rest plan cells row at out now → ScriptWritten k (means netlist) script out now cells row at
   ends laws sound rest plan row at now none room so_far =
       let all : so_far.lines ≡ lines_of script = sym (so_far.parted ∙ ap (λ r. so_far.lines ++ lines_of r) none ∙ append-nil so_far.lines) in

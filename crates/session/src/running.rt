@@ -62,7 +62,7 @@ fn change_line(res: Result<(), Fault>) -> Line
 
 /// The line of a split.
 fn split_line<P: Price>(res: Result<FoundSplit<P>, Fault>) -> Line
-    ensures { result ≡ split_told kind res }
+    ensures { result ≡ split_told P.kind res }
 {
     match res {
         Ok(found) => Line::Found {

@@ -1,4 +1,6 @@
 //! The tests of orders and splits.
+#![tactic(auto)]
+
 #[cfg(test)]
 mod five_modules;
 #[cfg(test)]

@@ -1,4 +1,6 @@
 //! The program: reads a page from the file bench.page, prints the netlist that it holds, and runs some calls on a plan over it.
+#![tactic(auto)]
+
 use lines::write_page_refused;
 use loading::load_unpacked;
 use netlist::Netlist;

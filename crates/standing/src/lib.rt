@@ -1,4 +1,6 @@
 //! A netlist with changes standing over it.
+#![tactic(auto)]
+
 ghost use Rattle.std.specs.Prelude.{◌≡◌, length};
 ghost use Rattle.standing.specs.Standing.{apply, applied, latest_first};
 ghost use Rattle.standing.specs.LentMeaning.{layers_meaning, standing_meaning};

@@ -1,4 +1,6 @@
 //! The one list of all worked lines: of pages, of orders and splits of small netlists, and of what is refused.
+#![tactic(auto)]
+
 ghost use Rattle.std.specs.List.{AllByRecursion as All};
 ghost use Rattle.worked.specs.Lines.{Stands, worked_lines};
 

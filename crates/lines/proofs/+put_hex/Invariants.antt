@@ -1,4 +1,4 @@
 use Rattle.lines.proofs.+put_hex.Given as goal
 
-abbrev pub decreases-put-hex : goal.decreases-put-hex
-decreases-put-hex l = l.digits
+abbrev pub decreases-put_hex : goal.decreases-put_hex
+decreases-put_hex l = l.digits

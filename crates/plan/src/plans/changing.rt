@@ -15,7 +15,7 @@ impl<N: Netlist> Plan<N> {
     /// A new plan: no change stands and nothing is shown.
     pub fn over(below: N) -> Self
         ensures below { result.below ≡ below }
-        ensures new { LedTo Price-as-Price.kind N.Netlist.meaning [] [] result }
+        ensures new { LedTo N.Price.Price.kind N.Netlist.meaning [] [] result }
     {
         Plan {
             below,
@@ -28,7 +28,7 @@ impl<N: Netlist> Plan<N> {
     /// Unites the groups of home modules `a` and `b`; then nothing is shown.
     /// Refused: 11 where one of them is not there, then 12 where they are in one group, then 15 where 64 changes stand.
     pub fn strap(&mut self, a: usize, b: usize) -> Result<(), Fault>
-        ensures { CallOn Price-as-Price.kind N.Netlist.meaning (strap_call a b) self.old self.new (of_change result) }
+        ensures { CallOn N.Price.Price.kind N.Netlist.meaning (strap_call a b) self.old self.new (of_change result) }
     {
         self.check_strap(a, b)?;
         self.add(Change::Strapped(a, b));
@@ -38,7 +38,7 @@ impl<N: Netlist> Plan<N> {
     /// Mutes a net too; then nothing is shown.
     /// Refused: 13 where the net is not there, then 14 where it is muted, then 15 where 64 changes stand.
     pub fn mute(&mut self, net: usize) -> Result<(), Fault>
-        ensures { CallOn Price-as-Price.kind N.Netlist.meaning (mute_call net) self.old self.new (of_change result) }
+        ensures { CallOn N.Price.Price.kind N.Netlist.meaning (mute_call net) self.old self.new (of_change result) }
     {
         self.check_mute(net)?;
         self.add(Change::Muted(net));
@@ -47,7 +47,7 @@ impl<N: Netlist> Plan<N> {
 
     /// Takes the latest change back; then nothing is shown. Refused by 16 where no change stands.
     pub fn take_back(&mut self) -> Result<(), Fault>
-        ensures { CallOn Price-as-Price.kind N.Netlist.meaning take_back self.old self.new (of_change result) }
+        ensures { CallOn N.Price.Price.kind N.Netlist.meaning take_back self.old self.new (of_change result) }
     {
         if self.count == 0 {
             return Err(Fault::NothingToTakeBack);

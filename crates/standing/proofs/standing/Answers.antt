@@ -6,5 +6,5 @@ use Rattle.standing.proofs.standing.Goals as goal
 pub loop-i-preserved : goal.loop-i-preserved
 loop-i-preserved g c =
     let means = g.N.Netlist.meaning in
-    c.apply-change.ensures
+    c.apply_change.ensures
     ∙ next_applied (means c.args.netlist.now) (standing_meaning means c.loop-i.layers) c.args.changes.now c.loop-i.i _ c.loop-i.invariant refl

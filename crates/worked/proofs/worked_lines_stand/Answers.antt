@@ -19,5 +19,5 @@ last = (record { fault = TooFewGroups; told = refl; number_is = refl }, tt)
 
 pub returns : goal.returns
 returns c =
-    pages_then pages.worked-pages (map of_netlist netlists.worked-lines ++ refused_lines) c.worked-pages-stand.ensures
-    (netlists_then netlists.worked-lines refused_lines c.worked-lines-hold.ensures last)
+    pages_then pages.worked_pages (map of_netlist netlists.worked_lines ++ refused_lines) c.worked_pages_stand.ensures
+    (netlists_then netlists.worked_lines refused_lines c.worked_lines_hold.ensures last)

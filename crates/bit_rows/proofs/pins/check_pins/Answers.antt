@@ -11,7 +11,7 @@ loop-net-init c = first_none _
 pub returns-in-Some : goal.returns-in-Some
 returns-in-Some c =
     sym (ap checked (first_at (λ (n : ℕ). net_fault c.args.modules n (row_pins c.args.rows.now n)) c.in-Some.fault c.loop-net.net (length c.args.rows.now)
-    c.loop-net.invariant (sym (c.in-Some.ensures ∙ ap (λ (w : ℕ). net_fault c.args.modules c.loop-net.net (members w)) c.from-word.ensures)) (omega arith)))
+    c.loop-net.invariant (sym (c.in-Some.ensures ∙ ap (λ (w : ℕ). net_fault c.args.modules c.loop-net.net (members w)) c.from_word.ensures)) (omega arith)))
 
 pub loop-net-preserved : goal.loop-net-preserved
-loop-net-preserved c = first_more (λ (n : ℕ). net_fault c.args.modules n (row_pins c.args.rows.now n)) c.loop-net.net c.loop-net.invariant (sym (c.in-default.ensures ∙ ap (λ (w : ℕ). net_fault c.args.modules c.loop-net.net (members w)) c.from-word.ensures))
+loop-net-preserved c = first_more (λ (n : ℕ). net_fault c.args.modules n (row_pins c.args.rows.now n)) c.loop-net.net c.loop-net.invariant (sym (c.in_default.ensures ∙ ap (λ (w : ℕ). net_fault c.args.modules c.loop-net.net (members w)) c.from_word.ensures))

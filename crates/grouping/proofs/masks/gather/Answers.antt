@@ -7,9 +7,6 @@ use Rattle.grouping.proofs.masks.gather.Goals as goal
 pub loop-i-init : goal.loop-i-init
 loop-i-init g c = (refl, λ i h. absurd (omega arith))
 
-pub offset-bounds-words-i : goal.offset-bounds-words-i
-offset-bounds-words-i g c = omega (arith, (g.N.Netlist.sound c.args.netlist.now).few_nets)
-
 pub bounds-words-i : goal.bounds-words-i
 bounds-words-i g c = omega (arith, (g.N.Netlist.sound c.args.netlist.now).few_nets)
 
@@ -17,9 +14,9 @@ pub loop-i-preserved : goal.loop-i-preserved
 loop-i-preserved g c =
     let m = g.N.Netlist.meaning c.args.netlist.now in
     let long : length c.loop-i.words ≡ 1024 = c.loop-i.invariant.0 in (
-      length-set c.loop-i.words c.loop-i.i c.net-mask.result.word ∙ long,
-      masks_more (own_nets g.Price.Price.kind m) c.args.row c.loop-i.words c.loop-i.i c.net-mask.result.word
-          (omega (arith, (g.N.Netlist.sound c.args.netlist.now).few_nets, long)) c.net-mask.ensures c.loop-i.invariant.1,
+      length-set c.loop-i.words c.loop-i.i c.net_mask.result.word ∙ long,
+      masks_more (own_nets g.N.Price.Price.kind m) c.args.row c.loop-i.words c.loop-i.i c.net_mask.result.word
+          (omega (arith, (g.N.Netlist.sound c.args.netlist.now).few_nets, long)) c.net_mask.ensures c.loop-i.invariant.1,
     )
 
 pub returns : goal.returns

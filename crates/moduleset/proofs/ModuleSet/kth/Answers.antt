@@ -6,16 +6,16 @@ use Rattle.moduleset.proofs.ModuleSet.kth.Goals as goal
 
 pub returns-in-None : goal.returns-in-None
 returns-in-None c =
-    sym (nth_past_drop (members c.args.self.word) c.loop-i.-i c.args.k (sym (c.in-None.ensures ∙ ap (λ xs. slice_get xs 0) c.loop-i.invariant)) (omega arith))
+    sym (nth_past_drop (members c.args.self.word) c.loop-i._i c.args.k (sym (c.in-None.ensures ∙ ap (λ xs. slice_get xs 0) c.loop-i.invariant)) (omega arith))
 
 pub loop-i-preserved : goal.loop-i-preserved
 loop-i-preserved c =
     let v = c.in-Some.lowest in
-    drop_tail (members c.args.self.word) _ c.loop-i.-i v
+    drop_tail (members c.args.self.word) _ c.loop-i._i v
     (sym c.loop-i.invariant ∙ members_first c.loop-i.rest.word c.without-rest.result.word v (lowest_nth c.loop-i.rest.word v c.in-Some.ensures) c.without-rest.ensures)
 
 pub returns : goal.returns
 returns c =
-    let e : c.loop-i.-i ≡ c.args.k = omega arith in
-    c.lowest-2.ensures ∙ ap (λ xs. slice_get xs 0) c.loop-i.invariant ∙ nth_drop (members c.args.self.word) c.loop-i.-i
+    let e : c.loop-i._i ≡ c.args.k = omega arith in
+    c.lowest-2.ensures ∙ ap (λ xs. slice_get xs 0) c.loop-i.invariant ∙ nth_drop (members c.args.self.word) c.loop-i._i
     ∙ ap (slice_get (members c.args.self.word)) e

@@ -14,44 +14,44 @@ module _ (bytes : _) (modules at pins : ℕ) (e : pins ≡ pin_count bytes at) w
   price_same : (r : Option Fault) → ends bytes (pin_bit at pins) 32 ≡ r → ends bytes (price_bit bytes at) 32 ≡ r
   price_same r = subst (λ (n : ℕ). ends bytes (pin_bit at n) 32 ≡ r) e
 
-pub returns-in-err-pins : goal.returns-in-err-pins
-returns-in-err-pins c =
-    let p = err_from_is_err_and c.from-residual.result c.from-residual.ensures.1 in
-    rw (p.1, p.2) (record { cases = net_ends c.args.bytes.now c.args.at c.args.modules _ c.in-err-pins.ensures.cases })
+pub returns-in_err-pins : goal.returns-in_err-pins
+returns-in_err-pins c =
+    let p = err_from_is_err_and c.from_residual.result c.from_residual.ensures.1 in
+    rw (p.1, p.2) (record { cases = net_ends c.args.bytes.now c.args.at c.args.modules _ c.in_err-pins.ensures.cases })
 
 pub returns-then-pins-lt2 : goal.returns-then-pins-lt2
 returns-then-pins-lt2 c =
-    let f = c.in-ok-pins.ensures.cases in
+    let f = c.in_ok-pins.ensures.cases in
     record { cases = net_few c.args.bytes.now c.args.at c.args.modules f.0 (omega arith) }
 
-pub returns-in-err-check-pins : goal.returns-in-err-check-pins
-returns-in-err-check-pins c =
-    let f = c.in-ok-pins.ensures.cases in
-    let p = err_from_is_err_and c.from-residual-in-err-check-pins.result c.from-residual-in-err-check-pins.ensures.1 in
+pub returns-in_err-check_pins : goal.returns-in_err-check_pins
+returns-in_err-check_pins c =
+    let f = c.in_ok-pins.ensures.cases in
+    let p = err_from_is_err_and c.from_residual-in_err-check_pins.result c.from_residual-in_err-check_pins.ensures.1 in
     rw (p.1, p.2) (record {
       cases = net_pin c.args.bytes.now c.args.at c.args.modules _ f.0 (omega arith)
-          (pins_same c.args.bytes.now c.args.modules c.args.at _ f.1 _ c.in-err-check-pins.ensures.cases);
+          (pins_same c.args.bytes.now c.args.modules c.args.at _ f.1 _ c.in_err-check_pins.ensures.cases);
     })
 
-pub returns-in-err-field : goal.returns-in-err-field
-returns-in-err-field c =
+pub returns-in_err-field : goal.returns-in_err-field
+returns-in_err-field c =
     let b = c.args.bytes.now in
-    let f = c.in-ok-pins.ensures.cases in
-    let p = err_from_is_err_and c.from-residual-in-err-field.result c.from-residual-in-err-field.ensures.1 in
+    let f = c.in_ok-pins.ensures.cases in
+    let p = err_from_is_err_and c.from_residual-in_err-field.result c.from_residual-in_err-field.ensures.1 in
     rw (p.1, p.2) (record {
       cases =
-          net_price b c.args.at c.args.modules f.0 (omega arith) (pins_same b c.args.modules c.args.at _ f.1 _ c.in-ok-check-pins.ensures.cases)
-          ∙ price_same b c.args.modules c.args.at _ f.1 _ c.in-err-field.ensures.cases;
+          net_price b c.args.at c.args.modules f.0 (omega arith) (pins_same b c.args.modules c.args.at _ f.1 _ c.in_ok-check_pins.ensures.cases)
+          ∙ price_same b c.args.modules c.args.at _ f.1 _ c.in_err-field.ensures.cases;
     })
 
 pub returns : goal.returns
 returns c =
     let b = c.args.bytes.now in
-    let f = c.in-ok-pins.ensures.cases in
-    let g = c.in-ok-field.ensures.cases in
+    let f = c.in_ok-pins.ensures.cases in
+    let g = c.in_ok-field.ensures.cases in
     record {
       cases = (
-        net_price b c.args.at c.args.modules f.0 (omega arith) (pins_same b c.args.modules c.args.at _ f.1 _ c.in-ok-check-pins.ensures.cases)
+        net_price b c.args.at c.args.modules f.0 (omega arith) (pins_same b c.args.modules c.args.at _ f.1 _ c.in_ok-check_pins.ensures.cases)
             ∙ price_same b c.args.modules c.args.at _ f.1 _ g.0,
         omega arith,
         omega arith,

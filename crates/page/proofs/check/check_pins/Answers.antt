@@ -7,16 +7,16 @@ use Rattle.page.proofs.check.check_pins.Goals as goal
 pub loop-k-init : goal.loop-k-init
 loop-k-init c = first_none _
 
-pub returns-in-err-check-pin : goal.returns-in-err-check-pin
-returns-in-err-check-pin c =
-    let p = err_from_is_err_and c.from-residual.result c.from-residual.ensures.1 in
+pub returns-in_err-check_pin : goal.returns-in_err-check_pin
+returns-in_err-check_pin c =
+    let p = err_from_is_err_and c.from_residual.result c.from_residual.ensures.1 in
     rw (p.1, p.2) (record {
       cases =
           first_at (pin_fault c.args.bytes.now c.args.modules c.args.at) _ c.loop-k.k c.args.count c.loop-k.invariant
-          c.in-err-check-pin.ensures.cases (omega arith);
+          c.in_err-check_pin.ensures.cases (omega arith);
     })
 
 pub loop-k-preserved : goal.loop-k-preserved
 loop-k-preserved c =
     first_more (pin_fault c.args.bytes.now c.args.modules c.args.at) c.loop-k.k c.loop-k.invariant
-    c.in-ok-check-pin.ensures.cases.0
+    c.in_ok-check_pin.ensures.cases.0

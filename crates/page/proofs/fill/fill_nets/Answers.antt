@@ -8,8 +8,8 @@ pub loop-i-init : goal.loop-i-init
 unfolding net_bit pins_table prices_table
 loop-i-init g c = (refl, refl, starts_none c.args.bytes.now c.args.starts.now (omega arith), refl, refl)
 
-pub fill-net-net-requires : goal.fill-net-net-requires
-fill-net-net-requires g c =
+pub fill_net-net-requires : goal.fill_net-net-requires
+fill_net-net-requires g c =
     let b = c.args.bytes.now in
     let i = c.loop-i.i in
     let e : net_end b c.loop-i.at ≡ net_bit b (i + 1) = ap (net_end b) c.loop-i.invariant.0 ∙ sym (bit_more b i) in

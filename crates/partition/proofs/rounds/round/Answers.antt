@@ -7,9 +7,9 @@ use Rattle.grouping.proofs.OwnNets.{grouped_there}
 use Rattle.partition.proofs.RoundSteps.{noted_is, next_is}
 use Rattle.partition.proofs.rounds.round.Goals as goal
 
-pub order-groups-price-requires : goal.order-groups-price-requires
-order-groups-price-requires g c =
-    let k = g.Price.Price.kind in
+pub order_groups-price-requires : goal.order_groups-price-requires
+order_groups-price-requires g c =
+    let k = g.N.Price.Price.kind in
     let m = g.N.Netlist.meaning c.args.netlist.now in
     let s = g.N.Netlist.sound c.args.netlist.now in
     let same = c.gather-masks.ensures.same in
@@ -24,14 +24,14 @@ order-groups-price-requires g c =
 
 pub returns : goal.returns
 returns g c =
-    let k = g.Price.Price.kind in
-    let l = g.met.Price.Price.lawful in
+    let k = g.N.Price.Price.kind in
+    let l = g.met.N.Price.Price.lawful in
     let m = g.N.Netlist.meaning c.args.netlist.now in
-    let ordered = c.order-groups-price.ensures in
-    let bytes = c.order-groups-price.new.bytes in
+    let ordered = c.order_groups-price.ensures in
+    let bytes = c.order_groups-price.new.bytes in
     record {
-      noted = noted_is k l m c.args.row c.gather-masks.result.row bytes _ c.args.count c.gather-masks.ensures.same c.requires.two ordered.order c.order-groups-price.result
-          c.group-set.result.word ordered.price c.group-set.ensures;
-      next = next_is k l m c.args.row c.gather-masks.result.row bytes _ c.args.count c.gather-masks.ensures.same c.requires.two ordered.order c.united-row.result c.united-row.ensures;
+      noted = noted_is k l m c.args.row c.gather-masks.result.row bytes _ c.args.count c.gather-masks.ensures.same c.requires.two ordered.order c.order_groups-price.result
+          c.group_set.result.word ordered.price c.group_set.ensures;
+      next = next_is k l m c.args.row c.gather-masks.result.row bytes _ c.args.count c.gather-masks.ensures.same c.requires.two ordered.order c.united_row.result c.united_row.ensures;
       cells = ordered.cells;
     }

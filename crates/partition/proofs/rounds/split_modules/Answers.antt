@@ -24,8 +24,8 @@ round-first-requires g c =
 
 pub loop-i-init : goal.loop-i-init
 loop-i-init g c =
-    let k = g.Price.Price.kind in
-    let l = g.met.Price.Price.lawful in
+    let k = g.N.Price.Price.kind in
+    let l = g.met.N.Price.Price.lawful in
     let m = g.N.Netlist.meaning c.args.netlist.now in
     let few : modules m ≤ 64 = modules_few m (g.N.Netlist.sound c.args.netlist.now) in
     let first = c.round-first.result in (
@@ -37,8 +37,8 @@ loop-i-init g c =
       refl,
     )
 
-pub overflow-add-count : goal.overflow-add-count
-overflow-add-count g c = omega (arith, c.requires.all, modules_few (g.N.Netlist.meaning c.args.netlist.now) (g.N.Netlist.sound c.args.netlist.now))
+pub overflow_add-count : goal.overflow_add-count
+overflow_add-count g c = omega (arith, c.requires.all, modules_few (g.N.Netlist.meaning c.args.netlist.now) (g.N.Netlist.sound c.args.netlist.now))
 
 pub round-next-requires : goal.round-next-requires
 round-next-requires g c =
@@ -52,8 +52,8 @@ round-next-requires g c =
 
 pub loop-i-preserved : goal.loop-i-preserved
 loop-i-preserved g c =
-    let k = g.Price.Price.kind in
-    let l = g.met.Price.Price.lawful in
+    let k = g.N.Price.Price.kind in
+    let l = g.met.N.Price.Price.lawful in
     let m = g.N.Netlist.meaning c.args.netlist.now in
     let nets = own_nets k m in
     let few : modules m ≤ 64 = modules_few m (g.N.Netlist.sound c.args.netlist.now) in
@@ -75,7 +75,7 @@ loop-i-preserved g c =
 
 pub returns : goal.returns
 returns g c =
-    let k = g.Price.Price.kind in
+    let k = g.N.Price.Price.kind in
     let m = g.N.Netlist.meaning c.args.netlist.now in
     record {
       found = kept_end k (own_nets k m) c.args.count c.loop-i.i (by_set c.loop-i.best.sides.word c.loop-i.best.price) c.loop-i.row (omega arith) c.loop-i.invariant.0;

@@ -31,7 +31,7 @@ returns-after-loop-i g c =
     let e : c.loop-i.i ≡ length m.places = omega arith in
     λ i h. c.loop-i.invariant i h ∙ ap (λ (x : ℕ). ltb i x && is_in c.args.sides.word (place m.places i)) e
 
-pub returns-in-default : goal.returns-in-default
-returns-in-default g c =
+pub returns-in_default : goal.returns-in_default
+returns-in_default g c =
     let m = g.N.Netlist.meaning c.args.netlist.now in
-    absurd (omega (arith, nth_none m.places c.loop-i.i c.in-default.ensures))
+    absurd (omega (arith, nth_none m.places c.loop-i.i c.in_default.ensures))

@@ -8,32 +8,32 @@ use Rattle.partition.proofs.splitting.split.Goals as goal
 
 pub returns-then-count-lt2 : goal.returns-then-count-lt2
 returns-then-count-lt2 g c =
-    few_groups g.Price.Price.kind g.met.Price.Price.lawful (g.N.Netlist.meaning c.args.netlist.now) (g.N.Netlist.sound c.args.netlist.now) c.args.cells.now
-    (omega (arith, c.home-count-homes.ensures)) (omega (arith, c.module-count-count.ensures))
+    few_groups g.N.Price.Price.kind g.met.N.Price.Price.lawful (g.N.Netlist.meaning c.args.netlist.now) (g.N.Netlist.sound c.args.netlist.now) c.args.cells.now
+    (omega (arith, c.home_count-homes.ensures)) (omega (arith, c.module_count-count.ensures))
 
-pub overflow-cast-count : goal.overflow-cast-count
-overflow-cast-count g c = omega (arith, modules_few (g.N.Netlist.meaning c.args.netlist.now) (g.N.Netlist.sound c.args.netlist.now))
+pub overflow_cast-count : goal.overflow_cast-count
+overflow_cast-count g c = omega (arith, modules_few (g.N.Netlist.meaning c.args.netlist.now) (g.N.Netlist.sound c.args.netlist.now))
 
-pub split-modules-found-requires : goal.split-modules-found-requires
-split-modules-found-requires g c =
+pub split_modules-found-requires : goal.split_modules-found-requires
+split_modules-found-requires g c =
     let m = g.N.Netlist.meaning c.args.netlist.now in
     record {
-      all = c.module-count-count.ensures;
+      all = c.module_count-count.ensures;
       two = omega arith;
       room = omega (arith, modules_homes m (g.N.Netlist.sound c.args.netlist.now));
     }
 
 pub returns : goal.returns
 returns g c =
-    let k = g.Price.Price.kind in
+    let k = g.N.Price.Price.kind in
     let m = g.N.Netlist.meaning c.args.netlist.now in
     let s = g.N.Netlist.sound c.args.netlist.now in
-    let count : ℕ = c.module-count-count.result in
-    let same_homes : c.home-count-homes.result ≡ homes m = c.home-count-homes.ensures in
-    splitted k g.met.Price.Price.lawful m s c.args.cells.now count c.split-modules-found.result.sides.word c.home-set.result.word c.split-modules-found.result.price
-    c.clear.new.cells c.module-count-count.ensures (omega (arith, c.module-count-count.ensures)) (omega (arith, same_homes)) c.split-modules-found.ensures.found
-    (omega arith) c.home-set.ensures
+    let count : ℕ = c.module_count-count.result in
+    let same_homes : c.home_count-homes.result ≡ homes m = c.home_count-homes.ensures in
+    splitted k g.met.N.Price.Price.lawful m s c.args.cells.now count c.split_modules-found.result.sides.word c.home_set.result.word c.split_modules-found.result.price
+    c.clear.new.cells c.module_count-count.ensures (omega (arith, c.module_count-count.ensures)) (omega (arith, same_homes)) c.split_modules-found.ensures.found
+    (omega arith) c.home_set.ensures
     (c.clear.ensures
-    ∙ ap (λ xs. replicate c.home-count-homes.result k.zero ++ xs)
-    (drop_further count c.home-count-homes.result c.split-modules-found.new.cells c.args.cells.now (omega (arith, modules_homes m s, c.module-count-count.ensures, same_homes)) c.split-modules-found.ensures.later)
+    ∙ ap (λ xs. replicate c.home_count-homes.result k.zero ++ xs)
+    (drop_further count c.home_count-homes.result c.split_modules-found.new.cells c.args.cells.now (omega (arith, modules_homes m s, c.module_count-count.ensures, same_homes)) c.split_modules-found.ensures.later)
     ∙ ap (λ (n : ℕ). cleared k n c.args.cells.now) same_homes)

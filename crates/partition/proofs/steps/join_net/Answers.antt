@@ -12,11 +12,11 @@ returns-in-Some g c =
     let w = c.in-Some.ensures in
     let there : u < length cells = c.requires u w.waits.0 w.waits.1 in
     let key = k.join (key_in k cells u) c.args.price in
-    let set_is = c.join-onto.ensures.cells in
+    let set_is = c.join_onto.ensures.cells in
     record {
       joined = λ pins s v o. ap (λ xs. key_in k xs v) set_is ∙ joined_key k cells u c.args.price there v _ (w.exact pins s v o);
       later = λ m f. ap (drop m) set_is ∙ drop-set-lt m cells u key (f u w.waits.0 w.waits.1);
       long = ap length set_is ∙ length-set cells u key;
-      same = c.join-onto.ensures.same;
-      taken = c.join-onto.ensures.taken;
+      same = c.join_onto.ensures.same;
+      taken = c.join_onto.ensures.taken;
     }

@@ -5,7 +5,7 @@ use Rattle.partition.proofs.steps.join_nets.Given as goal
 
 abbrev pub invariant-loop-i : goal.invariant-loop-i
 invariant-loop-i g l =
-    let k = g.Price.Price.kind in
+    let k = g.N.Price.Price.kind in
     KeysArePulls k (take l.i (grouped k (g.N.Netlist.meaning l.netlist) l.masks.row)) l.initial.row.taken.word l.row.cells.now
     × LaterStay l.initial.row.taken.word l.initial.row.cells.now l.row.cells.now
     × (length l.row.cells.now ≡ length l.initial.row.cells.now)

@@ -5,7 +5,7 @@ use Rattle.partition.proofs.steps.order_groups.Given as goal
 
 abbrev pub invariant-loop-s : goal.invariant-loop-s
 invariant-loop-s g l =
-    let k = g.Price.Price.kind in
+    let k = g.N.Price.Price.kind in
     Turn k (grouped k (g.N.Netlist.meaning l.netlist) l.masks.row) l.count l.s l.row.taken.word l.price l.bytes
     × (drop l.count l.bytes ≡ drop l.count l.initial.bytes)
     × (drop l.count l.row.cells.now ≡ drop l.count l.initial.row.cells.now)

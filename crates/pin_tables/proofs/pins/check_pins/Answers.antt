@@ -14,4 +14,4 @@ returns-in-Some c =
 
 pub loop-net-preserved : goal.loop-net-preserved
 loop-net-preserved c =
-    first_more (λ (n : ℕ). net_fault c.args.modules n (net_pins c.args.starts.now c.args.pins.now n)) c.loop-net.net c.loop-net.invariant (sym c.in-default.ensures)
+    first_more (λ (n : ℕ). net_fault c.args.modules n (net_pins c.args.starts.now c.args.pins.now n)) c.loop-net.net c.loop-net.invariant (sym c.in_default.ensures)

@@ -20,22 +20,22 @@ front_number bytes front n e is long =
     let p = long_parted bytes n is long in
     record { short = omega (arith, is.short); digits = cc (e, p.front) }
 
-pub returns-in-default : goal.returns-in-default
-returns-in-default t c =
-    never_read _ (λ n is. let e = c.in-default.ensures.read (n / 10) (front_number _ _ n (search rules) is (omega arith)) in let z : ◌≡◌ {A = ℕ} 0 1 = cc in omega arith)
+pub returns-in_default : goal.returns-in_default
+returns-in_default t c =
+    never_read _ (λ n is. let e = c.in_default.ensures.read (n / 10) (front_number _ _ n (search rules) is (omega arith)) in let z : ◌≡◌ {A = ℕ} 0 1 = cc in omega arith)
 
-pub returns-then-tens-lt-TENS-LEAST : goal.returns-then-tens-lt-TENS-LEAST
-returns-then-tens-lt-TENS-LEAST t c =
+pub returns-then-tens-lt-TENS_LEAST : goal.returns-then-tens-lt-TENS_LEAST
+returns-then-tens-lt-TENS_LEAST t c =
     never_read _ (λ n is. let e = c.in-Some.ensures.read (n / 10) (front_number _ _ n (search rules) is (omega arith)) in
     let same : c.in-Some.tens ≡ n / 10 = cc in omega (arith, (long_parted _ n is (omega arith)).large))
 
-pub overflow-mul-result : goal.overflow-mul-result
-overflow-mul-result t c = omega (arith, (c.in-Some.ensures.only c.in-Some.tens refl).short)
+pub overflow_mul-result : goal.overflow_mul-result
+overflow_mul-result t c = omega (arith, (c.in-Some.ensures.only c.in-Some.tens refl).short)
 
-pub overflow-add-result : goal.overflow-add-result
-overflow-add-result t c = omega (arith, (c.in-Some.ensures.only c.in-Some.tens refl).short)
+pub overflow_add-result : goal.overflow_add-result
+overflow_add-result t c = omega (arith, (c.in-Some.ensures.only c.in-Some.tens refl).short)
 
 pub returns : goal.returns
 returns t c =
     number_read _ _ (longer_number _ _ c.in-Some.tens c.from-unit.result (search rules) (c.in-Some.ensures.only c.in-Some.tens refl)
-    (omega arith) (omega arith) c.if-count-gt-DIGITS-MOST.false (omega arith) (omega arith))
+    (omega arith) (omega arith) c.if-count-gt-DIGITS_MOST.false (omega arith) (omega arith))

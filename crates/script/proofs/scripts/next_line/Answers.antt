@@ -14,11 +14,11 @@ no_bytes (x ∷ xs) e = absurd (omega arith)
 none_after : (xs : List ℕ) → take (length xs - length xs) (drop (length xs) xs) ≡ []
 none_after xs = take_rest xs (length xs) ∙ drop_all (length xs) xs (omega arith)
 
-pub returns-then-is-empty : goal.returns-then-is-empty
-returns-then-is-empty c = no_bytes c.args.script.now (eqb-true (length c.args.script.now) 0 (sym c.if-is-empty.ensures))
+pub returns-then-is_empty : goal.returns-then-is_empty
+returns-then-is_empty c = no_bytes c.args.script.now (eqb-true (length c.args.script.now) 0 (sym c.if-is_empty.ensures))
 
 pub returns-in-Some : goal.returns-in-Some
-returns-in-Some c = first_parted _ _ _ (some_bytes c.args.script.now c.if-is-empty.ensures) c.in-Some.ensures
+returns-in-Some c = first_parted _ _ _ (some_bytes c.args.script.now c.if-is_empty.ensures) c.in-Some.ensures
 
 pub returns-in-None : goal.returns-in-None
-returns-in-None c = first_alone _ _ (some_bytes c.args.script.now c.if-is-empty.ensures) c.in-None.ensures (none_after c.args.script.now)
+returns-in-None c = first_alone _ _ (some_bytes c.args.script.now c.if-is_empty.ensures) c.in-None.ensures (none_after c.args.script.now)

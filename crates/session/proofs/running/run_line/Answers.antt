@@ -7,6 +7,6 @@ returns-in-Some g c = record {
   long = λ _. record {
     found = _;
     understood = c.in-Some.ensures;
-    outcome = record { told = c.run-command-told.result; run = c.run-command-told.ensures; written = c.write-line.ensures };
+    outcome = record { told = c.run_command-told.result; run = c.run_command-told.ensures; written = c.write_line.ensures };
   };
 }

@@ -5,8 +5,8 @@ use Rattle.session.proofs.whole_script.run_line_at.Goals as goal
 
 pub returns-in-Ok : goal.returns-in-Ok
 returns-in-Ok g c =
-    line_put_at c.args.at c.in-Ok.count (c.args.at + 37 - c.args.at) c.args.out.now c.run-line.new.out (omega arith) c.requires (omega arith) c.in-Ok.ensures
+    line_put_at c.args.at c.in-Ok.count (c.args.at + 37 - c.args.at) c.args.out.now c.run_line.new.out (omega arith) c.requires (omega arith) c.in-Ok.ensures
 
-pub overflow-add-result : goal.overflow-add-result
-overflow-add-result g c =
-    omega (arith, next_near (line_put_at c.args.at c.in-Ok.count (c.args.at + 37 - c.args.at) c.args.out.now c.run-line.new.out (omega arith) c.requires (omega arith) c.in-Ok.ensures))
+pub overflow_add-result : goal.overflow_add-result
+overflow_add-result g c =
+    omega (arith, next_near (line_put_at c.args.at c.in-Ok.count (c.args.at + 37 - c.args.at) c.args.out.now c.run_line.new.out (omega arith) c.requires (omega arith) c.in-Ok.ensures))

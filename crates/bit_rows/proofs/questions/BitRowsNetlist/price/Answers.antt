@@ -6,9 +6,9 @@ use Rattle.bit_rows.proofs.questions.BitRowsNetlist.price.Goals as goal
 pub returns-then-net-self : goal.returns-then-net-self
 returns-then-net-self g c =
     let t = c.args.self.now in
-    sym (price_asked g.row.P-Price.kind t.modules _ t.prices.now t.there c.args.net ∙ slice_get_read t.prices.now (length t.prices.now) c.args.net _ refl c.if-net-self.true (search rules))
+    sym (price_asked g.P.Price.kind t.modules _ t.prices.now t.there c.args.net ∙ slice_get_read t.prices.now (length t.prices.now) c.args.net _ refl c.if-net-self.true (search rules))
 
 pub returns-else-net-self : goal.returns-else-net-self
 returns-else-net-self g c =
     let t = c.args.self.now in
-    sym (price_asked g.row.P-Price.kind t.modules _ t.prices.now t.there c.args.net ∙ slice_get_past t.prices.now c.args.net c.if-net-self.false)
+    sym (price_asked g.P.Price.kind t.modules _ t.prices.now t.there c.args.net ∙ slice_get_past t.prices.now c.args.net c.if-net-self.false)

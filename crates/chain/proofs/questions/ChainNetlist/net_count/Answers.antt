@@ -8,4 +8,4 @@ use Rattle.chain.proofs.questions.ChainNetlist.net_count.Goals as goal
 pub returns : goal.returns
 returns c =
     let n = c.args.self.now.modules in
-    omega (arith, length_nets chain_pins 0 (chain_prices n), length-replicate (n - 1) (wires_of 1), c.saturating-sub.ensures)
+    omega (arith, length_nets chain_pins 0 (chain_prices n), length-replicate (n - 1) (wires_of 1), c.saturating_sub.ensures)

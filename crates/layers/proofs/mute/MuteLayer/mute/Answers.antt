@@ -9,7 +9,7 @@ bounds-self-net g c =
     let layer = c.args.self.now in
     omega (
       arith,
-      unmuted_there (mute_meaning g.N.Netlist.meaning layer) c.args.net c.in-ok-check-unmuted.ensures,
+      unmuted_there (mute_meaning g.N.Netlist.meaning layer) c.args.net c.in_ok-check_unmuted.ensures,
       (g.N.Netlist.sound layer.below).few_nets,
     )
 
@@ -18,7 +18,7 @@ returns g c =
     let layer = c.args.self.now in
     let below = g.N.Netlist.meaning layer.below in
     let few = (g.N.Netlist.sound layer.below).few_nets in
-    let free = c.in-ok-check-unmuted.ensures in
+    let free = c.in_ok-check_unmuted.ensures in
     let there = unmuted_there (mute_meaning g.N.Netlist.meaning layer) c.args.net free in
     record {
       mutes = (

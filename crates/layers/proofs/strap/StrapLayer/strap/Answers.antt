@@ -2,15 +2,15 @@ use Rattle.std.proofs.Common.{refl}
 use Rattle.layers.proofs.Uniting.{united_row_in_turn, strap_done}
 use Rattle.layers.proofs.strap.StrapLayer.strap.Goals as goal
 
-pub invariant-of-self : goal.invariant-of-self
-invariant-of-self g c =
+pub invariant_of-self : goal.invariant_of-self
+invariant_of-self g c =
     let kept = united_row_in_turn g.N.Netlist.meaning g.N.Netlist.sound c.args.self.now c.args.a c.args.b
-    c.in-ok-v.v c.in-ok-v.w c.in-ok-v.ensures c.united-self.result c.united-self.ensures in
-    (kept.0, (kept.1, tt))
+    c.in_ok-v.v c.in_ok-v.w c.in_ok-v.ensures c.united-self.result c.united-self.ensures in
+    record { long = kept.0; numbered = kept.1 }
 
 pub returns : goal.returns
 returns g c = record {
   straps = strap_done g.N.Netlist.meaning g.N.Netlist.sound c.args.self.now c.args.a c.args.b
-      c.in-ok-v.v c.in-ok-v.w c.in-ok-v.ensures c.united-self.result c.united-self.ensures;
+      c.in_ok-v.v c.in_ok-v.w c.in_ok-v.ensures c.united-self.result c.united-self.ensures;
   below = refl;
 }

@@ -7,7 +7,7 @@ use Rattle.layers.proofs.strap.changes.united.Goals as goal
 pub loop-i-preserved : goal.loop-i-preserved
 loop-i-preserved c =
     let inside : c.loop-i.i < length c.args.row = search rules in
-    ap (set c.loop-i.row c.loop-i.i) c.united-place.ensures
+    ap (set c.loop-i.row c.loop-i.i) c.united_place.ensures
     ∙ map_over_more (united_place_lem c.args.v c.args.w) c.args.row c.loop-i.row c.loop-i.i
     (get_or c.loop-i.row c.loop-i.i 0) inside c.loop-i.invariant (search rules)
 

@@ -10,5 +10,5 @@ loop-i-preserved c =
     let more : groups (take (i + 1) row) ≡ max (suc (place row i)) (groups (take i row)) =
     ap (λ n. groups (take n row)) (add-one i) ∙ groups_more row i (omega arith) in
     let greater = c.max-count.ensures in
-    let byte = c.type-inv.row i in
+    let byte = c.type_inv.row i in
     (omega arith, omega arith)

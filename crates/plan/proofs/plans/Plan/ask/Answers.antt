@@ -7,13 +7,13 @@ use Rattle.plan.proofs.plans.Plan.ask.Goals as goal
 
 pub returns-in-Split : goal.returns-in-Split
 returns-in-Split g c =
-    let k = g.row.N-Price-Price.kind in
+    let k = g.N.Price.Price.kind in
     let means = g.N.Netlist.meaning in
     let plan = c.args.self.now in
     let count = homes (means plan.below) in
     let v = c.in-Split.cells in
     let left = c.split.new.cells in
-    let given = c.deref-mut.ensures.value in
+    let given = c.deref_mut.ensures.value in
     let long : length v.items ≡ v.len = sym v.ok.0 in
     let kept : length left ≡ v.len = c.split.auto.cells ∙ (ap length given ∙ long) in
     record {

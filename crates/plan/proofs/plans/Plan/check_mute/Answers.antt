@@ -15,4 +15,4 @@ returns g c =
     let first = mutes_checked (standing_meaning means) c.standing-standing.result c.mute-muted.new.self net c.mute-muted.result c.mute-muted.ensures.mutes in
     let first_standing = subst (λ fault. Checked fault c.mute-muted.result) (ap (mute_fault net) c.standing-standing.ensures) first in
     subst (λ r. Checked (refusal_on means plan (mute net)) r) (sym c.and.ensures)
-    (mute_checked (means plan.below) (standing_changes plan) net c.mute-muted.result c.check-room.result first_standing c.check-room.ensures)
+    (mute_checked (means plan.below) (standing_changes plan) net c.mute-muted.result c.check_room.result first_standing c.check_room.ensures)

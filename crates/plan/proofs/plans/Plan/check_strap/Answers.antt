@@ -17,4 +17,4 @@ returns g c =
     let first = straps_checked (strap_meaning (lent_meaning means)) c.standing-standing.result.below c.strap-strapped.new.self a b c.strap-strapped.result c.strap-strapped.ensures.straps in
     let first_standing = subst (λ fault. Checked fault c.strap-strapped.result) (ap (strap_fault a b) c.standing-standing.ensures) first in
     subst (λ r. Checked (refusal_on means plan (strap a b)) r) (sym c.and.ensures)
-    (strap_checked (means plan.below) (standing_changes plan) a b c.strap-strapped.result c.check-room.result first_standing c.check-room.ensures)
+    (strap_checked (means plan.below) (standing_changes plan) a b c.strap-strapped.result c.check_room.result first_standing c.check_room.ensures)

@@ -9,13 +9,13 @@ pub returns-then-self-eq0 : goal.returns-then-self-eq0
 returns-then-self-eq0 g c =
     let plan = c.args.self.now in
     let means = g.N.Netlist.meaning in
-    refused_on g.row.Price-Price.kind g.met.Price.Price.lawful means g.N.Netlist.sound take_back plan NothingToTakeBack
+    refused_on g.N.Price.Price.kind g.met.N.Price.Price.lawful means g.N.Netlist.sound take_back plan NothingToTakeBack
     (take_back_by (means plan.below) (standing_changes plan) ∙ none_to_take_back plan.count plan.changes c.if-self-eq0.true)
 
 pub returns : goal.returns
 returns g c =
     let plan = c.args.self.now in
     let means = g.N.Netlist.meaning in
-    take_back_done g.row.Price-Price.kind g.met.Price.Price.lawful means g.N.Netlist.sound plan _ refl
+    take_back_done g.N.Price.Price.kind g.met.N.Price.Price.lawful means g.N.Netlist.sound plan _ refl
     (take_back_by (means plan.below) (standing_changes plan) ∙ some_to_take_back plan.count plan.changes c.if-self-eq0.false)
     (latest_fewer plan.count plan.changes c.if-self-eq0.false) refl

@@ -11,8 +11,8 @@ bounds-self-net g c =
 
 pub returns-in-Some : goal.returns-in-Some
 returns-in-Some g c =
-    mute_mark g.N.Netlist.meaning g.N.Netlist.sound g.row.N-Price-Price.kind c.args.self.now c.args.net (Some c.in-Some.muted) c.in-Some.ensures
+    mute_mark g.N.Netlist.meaning g.N.Netlist.sound g.N.Price.Price.kind c.args.self.now c.args.net (Some c.in-Some.muted) c.in-Some.ensures
 
 pub returns-in-None : goal.returns-in-None
 returns-in-None g c =
-    mute_mark g.N.Netlist.meaning g.N.Netlist.sound g.row.N-Price-Price.kind c.args.self.now c.args.net None c.in-None.ensures
+    mute_mark g.N.Netlist.meaning g.N.Netlist.sound g.N.Price.Price.kind c.args.self.now c.args.net None c.in-None.ensures

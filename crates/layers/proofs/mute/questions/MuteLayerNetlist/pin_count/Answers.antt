@@ -3,4 +3,4 @@ use Rattle.layers.proofs.mute.questions.MuteLayerNetlist.pin_count.Goals as goal
 
 pub returns : goal.returns
 returns g c =
-    mute_pin_count g.N.Netlist.meaning g.N.Netlist.sound g.row.N-Price-Price.kind c.args.self.now c.args.net c.pin-count.result c.pin-count.ensures
+    mute_pin_count g.N.Netlist.meaning g.N.Netlist.sound g.N.Price.Price.kind c.args.self.now c.args.net c.pin_count.result c.pin_count.ensures

@@ -3,4 +3,4 @@ use Rattle.layers.proofs.strap.questions.StrapLayerNetlist.pin_count.Goals as go
 
 pub returns : goal.returns
 returns g c =
-    strap_pin_count g.N.Netlist.meaning g.N.Netlist.sound g.row.N-Price-Price.kind c.args.self.now c.args.net c.pin-count.result c.pin-count.ensures
+    strap_pin_count g.N.Netlist.meaning g.N.Netlist.sound g.N.Price.Price.kind c.args.self.now c.args.net c.pin_count.result c.pin_count.ensures

@@ -9,9 +9,9 @@ bounds-self-module g c =
 
 pub returns-in-Some : goal.returns-in-Some
 returns-in-Some g c =
-    strap_place g.N.Netlist.meaning g.N.Netlist.sound g.row.N-Price-Price.kind c.args.self.now c.args.home
+    strap_place g.N.Netlist.meaning g.N.Netlist.sound g.N.Price.Price.kind c.args.self.now c.args.home
     (Some c.in-Some.module) c.in-Some.ensures
 
 pub returns-in-None : goal.returns-in-None
 returns-in-None g c =
-    strap_place g.N.Netlist.meaning g.N.Netlist.sound g.row.N-Price-Price.kind c.args.self.now c.args.home None c.in-None.ensures
+    strap_place g.N.Netlist.meaning g.N.Netlist.sound g.N.Price.Price.kind c.args.self.now c.args.home None c.in-None.ensures

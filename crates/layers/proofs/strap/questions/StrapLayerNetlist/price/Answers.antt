@@ -3,4 +3,4 @@ use Rattle.layers.proofs.strap.questions.StrapLayerNetlist.price.Goals as goal
 
 pub returns : goal.returns
 returns g c =
-    strap_price g.N.Netlist.meaning g.N.Netlist.sound g.row.N-Price-Price.kind c.args.self.now c.args.net c.price.result c.price.ensures
+    strap_price g.N.Netlist.meaning g.N.Netlist.sound g.N.Price.Price.kind c.args.self.now c.args.net c.price.result c.price.ensures
