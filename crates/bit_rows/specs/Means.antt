@@ -1,5 +1,4 @@
 -- What loaded bit rows mean.
-use Rattle.std.specs.Prelude.{length}
 use Rattle.moduleset.proofs.Members.{few_members}
 use Rattle.netlist.specs.Meaning.{Meaning, Sound}
 use Rattle.bottom.specs.Fitting.{bottom_sound}

@@ -1,10 +1,9 @@
 -- Laws of the checks of loaded pins.
-use Rattle.std.proofs.Common.{◌≡◌, ℕ, zero, suc, ◌+◌, ◌<◌, ◌≤◌, Bool, true, false, ◌||◌, eqb, leb, List, length, get_or, Some, None, Ok, Option, sym, refl, ap, ◌∙◌, subst, inl, inr, add-one, arith}
+use Rattle.std.proofs.Common.{◌≡◌, ℕ, zero, suc, ◌+◌, ◌<◌, ◌≤◌, Bool, true, false, eqb, leb, List, length, get_or, Some, None, Ok, Option, sym, refl, subst, inl, inr, add-one, arith}
 use Rattle.std.proofs.lemmas.Bool.{cases_lt, or_parts, or_left, or_right, leb-false, ltb-false, eqb-false, le-leb, lt-leb, eq-eqb}
 use Rattle.refusal.specs.declared.Place.TheVariants.{Pin}
 use Rattle.refusal.specs.declared.Fault.{Fault}
 use Rattle.refusal.specs.declared.Fault.TheVariants.{NoSuchModule, RepeatedPin}
-use Rattle.refusal.specs.Checks.{fault_if, or_else, first_fault}
 use Rattle.bottom.specs.LoadFaults.{some_below, repeats, counts_fault, pin_fault, net_fault, pins_fault, checked}
 use Rattle.bottom.specs.Fitting.{PinsThere, FewPins}
 use Rattle.refusal.proofs.CheckLaws.{or_else_none, fault_if_none, none_at}

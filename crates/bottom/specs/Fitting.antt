@@ -2,7 +2,7 @@
 use Rattle.std.specs.Prelude.{◌≡◌, ℕ, zero, suc, ◌+◌, ◌<◌, ◌≤◌, max, List, [], ◌∷◌, length, slice_index, refl}
 use Rattle.std.proofs.Common.{sym, ap, subst, ◌∙◌, arith}
 use Rattle.std.proofs.lemmas.List.{length-replicate}
-use Rattle.std.specs.List.{range_with_len, AllByRecursion as All}
+use Rattle.std.specs.List.{range_with_len, AllByRecursion}
 use Rattle.std.proofs.lemmas.List.FromFn.{length-range_with_len}
 use Rattle.std.proofs.ByRecursion.{All-from_get_or}
 use Rattle.netlist.specs.Nets.{OnPins}
@@ -33,7 +33,7 @@ module _ {P : Type 0} (modules : ℕ) (pins : ℕ → List ℕ) (prices : List P
   few_from f i (x ∷ xs) h = (f i (omega arith), few_from f (i + 1) xs (omega arith))
 
   there_from : PinsThere modules pins (length prices) → (i : ℕ) (xs : List P) → i + length xs ≤ length prices
-      → OnPins (All (λ pin. pin < length (range_with_len 0 modules))) (nets_from pins i xs)
+      → OnPins (AllByRecursion (λ pin. pin < length (range_with_len 0 modules))) (nets_from pins i xs)
   there_from f i [] h = tt
   there_from f i (x ∷ xs) h = (
     All-from_get_or (λ pin. pin < length (range_with_len 0 modules)) (pins i) 0 (λ k l. let e = length-range_with_len 0 modules in let b = f i k (omega arith) l in omega arith),

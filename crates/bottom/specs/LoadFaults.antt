@@ -1,5 +1,5 @@
 -- Which fault load finds, and what it answers and leaves.
-use Rattle.std.specs.Prelude.{◌≡◌, ℕ, zero, suc, Bool, true, false, ◌||◌, List, length, Some, None, Ok, Err, Option, Result, nat_eq, nat_le, nat_lt, slice_index}
+use Rattle.std.specs.Prelude.{◌≡◌, ℕ, zero, suc, Bool, false, ◌||◌, List, length, Some, None, Ok, Err, Option, Result, nat_eq, nat_le, nat_lt, slice_index}
 use Rattle.refusal.specs.declared.Place.TheVariants.{Call, Net, Pin}
 use Rattle.refusal.specs.declared.Fault.{Fault}
 use Rattle.refusal.specs.declared.Fault.TheVariants.{TooManyModules, TooManyNets, TablesDisagree, TooFewPins, NoSuchModule, RepeatedPin}

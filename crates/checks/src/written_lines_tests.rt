@@ -4,7 +4,7 @@ use refusal::{Fault, Place};
 use std::test::Fail;
 
 #[test]
-fn a_refused_page_has_its_line(rt: HostRuntime) {
+fn a_refused_page_is_written(rt: HostRuntime) {
     let mut out = [b'.'; 40];
     assert_eq!(rt;
         write_line(
@@ -31,7 +31,7 @@ fn a_refused_page_has_its_line(rt: HostRuntime) {
 }
 
 #[test]
-fn the_longest_line_fits(rt: HostRuntime) {
+fn the_longest_line_is_written(rt: HostRuntime) {
     let mut out = [b'.'; 37];
     let fault = Fault::TooShort { table: usize::MAX };
     assert_eq!(rt;
@@ -42,7 +42,7 @@ fn the_longest_line_fits(rt: HostRuntime) {
 }
 
 #[test]
-fn a_short_buffer_is_refused_and_stays(rt: HostRuntime) -> Result<(), Fail> {
+fn a_short_buffer_takes_no_line(rt: HostRuntime) -> Result<(), Fail> {
     let mut out = [b'.'; 36];
     match write_line(
         Line::PageRefused {

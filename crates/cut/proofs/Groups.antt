@@ -1,6 +1,6 @@
 -- Home modules by their groups: prices through places, and lawful splits before and after two groups are united.
 use Rattle.std.proofs.Common.{◌≡◌, ℕ, zero, suc, ◌<◌, ◌≤◌, max, Bool, true, false, cond, eqb, ◌⊎◌, List, [], ◌∷◌, map, length, sym, refl, ap, ◌∙◌, subst, ap₂, inl, inr, ⊎_elim, arith}
-use Rattle.std.specs.List.{AllByRecursion as All}
+use Rattle.std.specs.List.{AllByRecursion}
 use Rattle.std.proofs.lemmas.Bool.{false≢true, both_ways, eqb-true, eqb-false, cases_lt, cond_both}
 use Rattle.price.specs.Kind.{Kind, Laws}
 use Rattle.netlist.specs.Nets.{Net, OnPins}
@@ -62,12 +62,12 @@ module _ {P : Type 0} (k : Kind P) where
   placed_price side row (net ∷ nets) =
       ap₂ (λ b z. cond b (k.join net.price z) z) (crosses_map side (place row) net.pins) (placed_price side row nets)
 
-  pub group_price : Laws k → (row : List ℕ) (side : ℕ → Bool) (nets : List (Net P)) → Lawful row side → OnPins (All (λ pin. pin < length row)) nets
+  pub group_price : Laws k → (row : List ℕ) (side : ℕ → Bool) (nets : List (Net P)) → Lawful row side → OnPins (AllByRecursion (λ pin. pin < length row)) nets
       → split_price k (group_side row side) (placed row nets) ≡ split_price k side nets
   group_price l row side nets w there =
       placed_price (group_side row side) row nets
       ∙ total_like k l (crosses (λ i. group_side row side (place row i))) (crosses side) nets
-      (on_pins_map (All (λ pin. pin < length row)) (λ ps. crosses (λ i. group_side row side (place row i)) ps ≡ crosses side ps) nets
+      (on_pins_map (AllByRecursion (λ pin. pin < length row)) (λ ps. crosses (λ i. group_side row side (place row i)) ps ≡ crosses side ps) nets
       (λ ps a. crosses_like (λ i. group_side row side (place row i)) side ps
       (λ i e. sym (side_by_group row side w i (all_member (λ pin. pin < length row) ps i a e)))) there)
 
@@ -87,7 +87,7 @@ module _ {P : Type 0} (k : Kind P) where
       go false t e ih = ap (λ z. cond (test net.pins) (k.join net.price z) z) ih
 
 -- the placed pins are groups
-pub placed_there : {P : Type 0} (row : List ℕ) (nets : List (Net P)) → OnPins (All (λ pin. pin < length row)) nets → OnPins (All (λ pin. pin < groups row)) (placed row nets)
+pub placed_there : {P : Type 0} (row : List ℕ) (nets : List (Net P)) → OnPins (AllByRecursion (λ pin. pin < length row)) nets → OnPins (AllByRecursion (λ pin. pin < groups row)) (placed row nets)
 placed_there row [] there = tt
 placed_there row (net ∷ nets) there = (
   members_all (λ pin. pin < groups row) (map (place row) net.pins) (λ q h.

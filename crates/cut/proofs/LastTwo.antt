@@ -1,6 +1,6 @@
 -- The last two of an order: the last is pulled at the price of parting it off alone, and no split that parts the two is cheaper.
 use Rattle.std.proofs.Common.{◌≡◌, ℕ, ◌<◌, Bool, true, false, eqb, List, [], ◌∷◌, sym, refl, ◌∙◌, subst, ⊎_elim, arith}
-use Rattle.std.specs.List.{AllByRecursion as All}
+use Rattle.std.specs.List.{AllByRecursion}
 use Rattle.std.proofs.lemmas.Bool.{both_ways, eqb-true, eq-eqb, and_parts, or_cases}
 use Rattle.price.specs.Kind.{Kind, NotGreater, Laws}
 use Rattle.netlist.specs.Nets.{Net, OnPins}
@@ -27,7 +27,7 @@ pulls_as_alone v among ps new all = same_tests (pulls v among ps) (crosses (alon
     (member_any among ps q r.1.1 (⊎_elim (λ e. absurd (both_ways (eqb q v) r.1.2 e)) (λ e. e) (or_cases (eqb q v) (among q) (all q r.1.1))))
     (members_every (and_also v among) ps all))
 
-module _ {P : Type 0} (k : Kind P) (l : Laws k) (nets : List (Net P)) (m : ℕ) (there : OnPins (All (λ pin. pin < m)) nets) where
+module _ {P : Type 0} (k : Kind P) (l : Laws k) (nets : List (Net P)) (m : ℕ) (there : OnPins (AllByRecursion (λ pin. pin < m)) nets) where
   last_parted : (u v : ℕ) (before rest : List ℕ) → TakenAsListed k nets m (u ∷ before) (v ∷ rest) → ((side : ℕ → Bool) → Bounded k l nets side u before (v ∷ rest))
       → LastParted k nets (ending_after before u v rest)
   last_parted u v before (w ∷ ws) t b = last_parted v w (u ∷ before) ws t.1 (λ side. (b side).1)
@@ -35,7 +35,7 @@ module _ {P : Type 0} (k : Kind P) (l : Laws k) (nets : List (Net P)) (m : ℕ) 
       let all_taken : (p : ℕ) → p < m → and_also v (has (u ∷ before)) p ≡ true = t.1 in
       let e : pull k nets v (has (u ∷ before)) ≡ split_price k (alone v) nets =
       total_like k l (pulls v (has (u ∷ before))) (crosses (alone v)) nets
-      (on_pins_map (All (λ pin. pin < m)) (λ ps. pulls v (has (u ∷ before)) ps ≡ crosses (alone v) ps) nets
+      (on_pins_map (AllByRecursion (λ pin. pin < m)) (λ ps. pulls v (has (u ∷ before)) ps ≡ crosses (alone v) ps) nets
       (λ ps a. pulls_as_alone v (has (u ∷ before)) ps t.0.waits (λ p i. all_taken p (all_member (λ pin. pin < m) ps p a i))) there) in
       record {
         pulled_at_price = e;

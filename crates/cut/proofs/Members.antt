@@ -1,6 +1,6 @@
 -- What `any`, `every`, `has`, `crosses` and `pulls` say of the members of a list.
 use Rattle.std.proofs.Common.{◌≡◌, ℕ, Bool, true, false, not, ◌&&◌, ◌||◌, eqb, ◌⊎◌, List, [], ◌∷◌, map, sym, refl, ap, ◌∙◌, subst, ap₂, inl, inr, ⊎_elim}
-use Rattle.std.specs.List.{AllByRecursion as All}
+use Rattle.std.specs.List.{AllByRecursion}
 use Rattle.std.proofs.lemmas.Bool.{true≢false, false≢true, not-true, eqb-true, eq-eqb, cases_Bool, and_parts, and_from, and_cases, or_cases, or_left, or_right, not_from_false}
 use Rattle.cut.specs.Cuts.{any, every, has, crosses, pulls}
 
@@ -57,11 +57,11 @@ not_every_member test [] h = absurd (true≢false h)
 not_every_member test (x ∷ xs) h =
     ⊎_elim (λ e. (x, has_head x xs, e)) (λ e. member_tail x xs (λ p. test p ≡ false) (not_every_member test xs e)) (and_cases (test x) (every test xs) h)
 
-pub all_member : (A : ℕ → Type 0) (xs : List ℕ) (p : ℕ) → All A xs → has xs p ≡ true → A p
+pub all_member : (A : ℕ → Type 0) (xs : List ℕ) (p : ℕ) → AllByRecursion A xs → has xs p ≡ true → A p
 all_member A [] p a h = absurd (false≢true h)
 all_member A (x ∷ xs) p a h = ⊎_elim (λ e. subst A (sym e) a.0) (λ e. all_member A xs p a.1 e) (has_cases x xs p h)
 
-pub members_all : (A : ℕ → Type 0) (xs : List ℕ) → ((p : ℕ) → has xs p ≡ true → A p) → All A xs
+pub members_all : (A : ℕ → Type 0) (xs : List ℕ) → ((p : ℕ) → has xs p ≡ true → A p) → AllByRecursion A xs
 members_all A [] h = tt
 members_all A (x ∷ xs) h = (h x (has_head x xs), members_all A xs (λ p e. h p (has_tail x xs p e)))
 

@@ -2,7 +2,7 @@
 -- the first modules of the order on the modules there are.
 use Rattle.std.proofs.Common.{◌≡◌, ℕ, zero, suc, ◌<◌, Bool, true, false, ◌&&◌, ◌||◌, eqb, ◌⊎◌, List, [], ◌∷◌, length, get_or, take, sym, refl, ap, ◌∙◌, ap₂, inl, inr, ⊎_elim, arith}
 use native.Mathlib.Nat.{suc_inj}
-use Rattle.std.specs.List.{AllByRecursion as All}
+use Rattle.std.specs.List.{AllByRecursion}
 use Rattle.std.proofs.lemmas.Bool.{cases_Bool, cases_order}
 use Rattle.price.specs.Kind.{Kind, NotGreater, Laws}
 use Rattle.netlist.specs.Nets.{Net, OnPins}
@@ -18,10 +18,10 @@ use Rattle.cut.proofs.LastTwo.{order_last_parted}
 abbrev pub AlikeBelow : ℕ → (ℕ → Bool) → (ℕ → Bool) → Type 0
 AlikeBelow m a b = (p : ℕ) → p < m → a p ≡ b p
 
-pub pull_like : {P : Type 0} (k : Kind P) → Laws k → (nets : List (Net P)) (m v : ℕ) (a b : ℕ → Bool) → OnPins (All (λ pin. pin < m)) nets → AlikeBelow m a b → pull k nets v a ≡ pull k nets v b
+pub pull_like : {P : Type 0} (k : Kind P) → Laws k → (nets : List (Net P)) (m v : ℕ) (a b : ℕ → Bool) → OnPins (AllByRecursion (λ pin. pin < m)) nets → AlikeBelow m a b → pull k nets v a ≡ pull k nets v b
 pull_like k l nets m v a b there e =
     total_like k l (pulls v a) (pulls v b) nets
-    (on_pins_map (All (λ pin. pin < m)) (λ ps. pulls v a ps ≡ pulls v b ps) nets (λ ps h. same ps (λ p i. e p (all_member (λ pin. pin < m) ps p h i))) there)
+    (on_pins_map (AllByRecursion (λ pin. pin < m)) (λ ps. pulls v a ps ≡ pulls v b ps) nets (λ ps h. same ps (λ p i. e p (all_member (λ pin. pin < m) ps p h i))) there)
   where
     same : (ps : List ℕ) → ((p : ℕ) → has ps p ≡ true → a p ≡ b p) → pulls v a ps ≡ pulls v b ps
     same ps h =
@@ -74,7 +74,7 @@ pub record GreatestPull {P : Type 0} (k : Kind P) (nets : List (Net P)) (m : ℕ
   pub none_greater : (w : ℕ) → w < m → among w ≡ false → NotGreater k (pull k nets w among) (pull k nets v among)
   pub lower_less : (w : ℕ) → w < v → among w ≡ false → k.less (pull k nets w among) (pull k nets v among) ≡ true
 
-module _ {P : Type 0} (k : Kind P) (l : Laws k) (nets : List (Net P)) (m : ℕ) (there : OnPins (All (λ pin. pin < m)) nets) where
+module _ {P : Type 0} (k : Kind P) (l : Laws k) (nets : List (Net P)) (m : ℕ) (there : OnPins (AllByRecursion (λ pin. pin < m)) nets) where
   most_from_greatest : (taken : List ℕ) (among : ℕ → Bool) (v : ℕ) → AlikeBelow m among (has taken) → GreatestPull k nets m among v → MostPulled k nets m taken v
   most_from_greatest taken among v e g = record {
     there = g.there;
@@ -133,7 +133,7 @@ before_last n (u ∷ v ∷ vs) e p =
     ∙ (front (has (take (length vs) (v ∷ vs)) p) (eqb p u) ∙ ap (λ z. eqb p u || has (take z (v ∷ vs)) p) (suc_inj (suc_inj e))))
 
 -- at the last step the pull is the price of parting off the last alone
-pub last_pull_price : {P : Type 0} (k : Kind P) → Laws k → (nets : List (Net P)) (n : ℕ) (among : ℕ → Bool) → OnPins (All (λ pin. pin < suc (suc n))) nets
+pub last_pull_price : {P : Type 0} (k : Kind P) → Laws k → (nets : List (Net P)) (n : ℕ) (among : ℕ → Bool) → OnPins (AllByRecursion (λ pin. pin < suc (suc n))) nets
     → AlikeBelow (suc (suc n)) among (has (take (suc n) (order k nets (suc (suc n)))))
     → pull k nets (get_or (order k nets (suc (suc n))) (suc n) 0) among ≡ split_price k (alone (ending (order k nets (suc (suc n)))).last) nets
 last_pull_price k l nets n among there e =

@@ -2,7 +2,7 @@
 use Rattle.std.proofs.Common.{◌≡◌, ℕ, zero, suc, pred, ◌<◌, Bool, true, false, cond, List, [], ◌∷◌, map, length, Some, None, sym, refl, ap, ◌∙◌, subst, ap₂, arith}
 use native.Mathlib.Nat.{suc_inj}
 use lib.ListN.{length-map}
-use Rattle.std.specs.List.{AllByRecursion as All}
+use Rattle.std.specs.List.{AllByRecursion}
 use Rattle.price.specs.Kind.{Kind, Laws}
 use Rattle.netlist.specs.Nets.{Net, OnPins}
 use Rattle.netlist.specs.Places.{place, groups, Numbered, placed}
@@ -32,13 +32,13 @@ united_over a b places row over o = record {
   inside = λ i h. omega (arith, o.inside i h, length-map over (united_place_lem a b));
 }
 
-placed_over : {P : Type 0} (places row over : List ℕ) → Over places row over → (nets : List (Net P)) → OnPins (All (λ pin. pin < length places)) nets
+placed_over : {P : Type 0} (places row over : List ℕ) → Over places row over → (nets : List (Net P)) → OnPins (AllByRecursion (λ pin. pin < length places)) nets
     → placed row nets ≡ placed over (placed places nets)
 placed_over places row over o [] there = refl
 placed_over places row over o (net ∷ nets) there =
     ap₂ (λ x xs. record { price = net.price; pins = x } ∷ xs) (pins net.pins there.0) (placed_over places row over o nets there.1)
   where
-    pins : (ps : List ℕ) → All (λ pin. pin < length places) ps → map (place row) ps ≡ map (place over) (map (place places) ps)
+    pins : (ps : List ℕ) → AllByRecursion (λ pin. pin < length places) ps → map (place row) ps ≡ map (place over) (map (place places) ps)
     pins [] h = refl
     pins (p ∷ ps) h = ap₂ (λ x xs. x ∷ xs) (o.same_group p h.0) (pins ps h.1)
 
@@ -75,7 +75,7 @@ module _ {P : Type 0} (k : Kind P) (places : List ℕ) where
       let b : cheapest_after k y ys ≡ t = cc in
       subst (λ z. SameByPlaces places z t) a (subst (λ z. SameByPlaces places (cheapest_after k x xs) z) b (cheapest_same x y xs ys e.0 e.1))
 
-module _ {P : Type 0} (k : Kind P) (l : Laws k) (places : List ℕ) (nets : List (Net P)) (there : OnPins (All (λ pin. pin < length places)) nets) where
+module _ {P : Type 0} (k : Kind P) (l : Laws k) (places : List ℕ) (nets : List (Net P)) (there : OnPins (AllByRecursion (λ pin. pin < length places)) nets) where
   parting_same : (row over : List ℕ) (group : ℕ) → Over places row over → SameByPlaces places (parting k nets row group) (parting k (placed places nets) over group)
   parting_same row over group o = record {
     same_price = ap (split_price k (alone group)) (placed_over places row over o nets there);
@@ -105,7 +105,7 @@ pub rounds_over_modules_lem : {P : Type 0} (k : Kind P) → Laws k → RoundsOve
 unfolding split_of own_nets
 rounds_over_modules_lem {P} k l m row n s g long own split by_modules found counted_found =
     let nets = zero_muted k m.nets m.muted in
-    let there = unmuted_there k (All (λ pin. pin < length m.places)) m.nets m.muted s.pins_there in
+    let there = unmuted_there k (AllByRecursion (λ pin. pin < length m.places)) m.nets m.muted s.pins_there in
     let below : (i : ℕ) → i < length m.places → place m.places i < modules m = place_below_groups m.places in
     let start : Over m.places m.places row = record {
       as_long = refl;

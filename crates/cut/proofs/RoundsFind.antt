@@ -1,7 +1,7 @@
 -- The rounds note lawful splits at their true price, and for every lawful split one that is not dearer; so they find a cheapest one.
 use Rattle.std.proofs.Common.{◌≡◌, ℕ, zero, suc, pred, ◌<◌, Bool, false, List, length, get_or, Some, None, sym, refl, ap, ◌∙◌, subst, ⊎_elim, arith}
 use native.Mathlib.Nat.{suc_inj}
-use Rattle.std.specs.List.{AllByRecursion as All}
+use Rattle.std.specs.List.{AllByRecursion}
 use Rattle.std.proofs.ByRecursion.{All-get_or, All-weaker}
 use Rattle.std.proofs.lemmas.Bool.{eq-eqb, ne_eqb}
 use Rattle.price.specs.Kind.{Kind, NotGreater, Laws}
@@ -54,7 +54,7 @@ module _ {P : Type 0} (k : Kind P) (l : Laws k) (nets : List (Net P)) where
       let end = round_ending k nets row in
       uniting end.next_to_last end.last row w d.next_there d.last_there d.differ
 
-  noted_proper : (n : ℕ) (row : List ℕ) → Numbered 0 row → groups row ≡ suc n → All (Proper row) (noted k nets n row)
+  noted_proper : (n : ℕ) (row : List ℕ) → Numbered 0 row → groups row ≡ suc n → AllByRecursion (Proper row) (noted k nets n row)
   unfolding noted
   noted_proper zero row w g = tt
   noted_proper (suc n) row w g =
@@ -67,7 +67,7 @@ module _ {P : Type 0} (k : Kind P) (l : Laws k) (nets : List (Net P)) where
       )
 
   -- a lawful split that parts the last two groups is not cheaper than parting off the last
-  parting_low : (row : List ℕ) → 1 < groups row → OnPins (All (λ pin. pin < length row)) nets → (side : ℕ → Bool) → Lawful row side
+  parting_low : (row : List ℕ) → 1 < groups row → OnPins (AllByRecursion (λ pin. pin < length row)) nets → (side : ℕ → Bool) → Lawful row side
       → (group_side row side (round_ending k nets row).next_to_last ≡ group_side row side (round_ending k nets row).last → ⊥)
       → NotGreater k (parting k nets row (round_ending k nets row).last).price (split_price k side nets)
   parting_low row g there side w d =
@@ -79,7 +79,7 @@ module _ {P : Type 0} (k : Kind P) (l : Laws k) (nets : List (Net P)) where
   abbrev NotDearerIn : List (Split P) → P → Type 0
   NotDearerIn list p = (j : ℕ) × (j < length list) × ((d : Split P) → NotGreater k (get_or list j d).price p)
 
-  noted_low : (n : ℕ) (row : List ℕ) → Numbered 0 row → groups row ≡ suc n → OnPins (All (λ pin. pin < length row)) nets → (side : ℕ → Bool) → Lawful row side
+  noted_low : (n : ℕ) (row : List ℕ) → Numbered 0 row → groups row ≡ suc n → OnPins (AllByRecursion (λ pin. pin < length row)) nets → (side : ℕ → Bool) → Lawful row side
       → NotDearerIn (noted k nets n row) (split_price k side nets)
   unfolding noted
   noted_low zero row w g there side lawful = absurd (one_group_unlawful row (omega arith) side lawful)
@@ -89,13 +89,13 @@ module _ {P : Type 0} (k : Kind P) (l : Laws k) (nets : List (Net P)) where
       ⊎_elim
       (λ e.
       let later : NotDearerIn (noted k nets n (next_row row)) (split_price k side nets) =
-      noted_low n (next_row row) u.numbered (suc_inj (u.one_fewer ∙ g)) (subst (λ z. OnPins (All (λ pin. pin < z)) nets) (sym u.as_long) there) side
+      noted_low n (next_row row) u.numbered (suc_inj (u.one_fewer ∙ g)) (subst (λ z. OnPins (AllByRecursion (λ pin. pin < z)) nets) (sym u.as_long) there) side
       (lawful_united end.next_to_last end.last row (next_row row) u side lawful e) in
       (suc later.0, omega (arith, later.1), later.2))
       (λ d. (0, omega arith, λ _. parting_low row (omega arith) there side lawful d))
       (same_side (group_side row side end.next_to_last) (group_side row side end.last))
 
-  found : (n : ℕ) (row : List ℕ) → Numbered 0 row → groups row ≡ suc n → OnPins (All (λ pin. pin < length row)) nets → (split : Split P)
+  found : (n : ℕ) (row : List ℕ) → Numbered 0 row → groups row ≡ suc n → OnPins (AllByRecursion (λ pin. pin < length row)) nets → (split : Split P)
       → FirstOfLowest k (noted k nets n row) split → Cheapest k row nets split × (split.side 0 ≡ false)
   found n row w g there split f =
       let list = noted k nets n row in
@@ -111,7 +111,7 @@ module _ {P : Type 0} (k : Kind P) (l : Laws k) (nets : List (Net P)) where
       )
 
   -- at two groups and more
-  pub found_by_rounds : (n : ℕ) (row : List ℕ) → Numbered 0 row → groups row ≡ suc (suc n) → OnPins (All (λ pin. pin < length row)) nets
+  pub found_by_rounds : (n : ℕ) (row : List ℕ) → Numbered 0 row → groups row ≡ suc (suc n) → OnPins (AllByRecursion (λ pin. pin < length row)) nets
       → (split : Split P) × (cheapest_of k (noted k nets (suc n) row) ≡ Some split) × FoundByRounds k nets row split
   unfolding noted
   found_by_rounds n row w g there =
@@ -158,7 +158,7 @@ split_is_cheapest_lem {P} k l m s = record {
   where
     rounds : RoundsOutcome k (zero_muted k m.nets m.muted) m.places
     rounds = rounds_find_cheapest_lem k l (zero_muted k m.nets m.muted) m.places s.numbered
-        (unmuted_there k (All (λ pin. pin < length m.places)) m.nets m.muted s.pins_there)
+        (unmuted_there k (AllByRecursion (λ pin. pin < length m.places)) m.nets m.muted s.pins_there)
 
     over_unmuted : (split : Split P) → Cheapest k m.places (zero_muted k m.nets m.muted) split → CheapestFor k m split
     over_unmuted split c = record {

@@ -1,6 +1,6 @@
 -- What holds of orders, for every price kind.
 use Rattle.std.specs.Prelude.{◌≡◌, ℕ, ◌+◌, ◌<◌, Bool, cond, List, [], ◌∷◌, length, ◌==◌, ◌≢◌, nat_lt}
-use Rattle.std.specs.List.{AllByRecursion as All}
+use Rattle.std.specs.List.{AllByRecursion}
 use Rattle.price.specs.Kind.{Kind, NotGreater}
 use Rattle.netlist.specs.Nets.{Net, OnPins}
 use Rattle.cut.specs.Cuts.{has, split_price, pull, alone}
@@ -29,4 +29,4 @@ pub record LastParted {P : Type 0} (k : Kind P) (nets : List (Net P)) (end : End
 -- This holds of every order of two modules and more.
 abbrev pub LastPartedCheapest : {P : Type 0} → Kind P → Type 0
 LastPartedCheapest {P} k =
-    (nets : List (Net P)) (m : ℕ) (list : List ℕ) → OnPins (All (λ pin. pin < m)) nets → 1 < m → IsOrder k nets m list → LastParted k nets (ending list)
+    (nets : List (Net P)) (m : ℕ) (list : List ℕ) → OnPins (AllByRecursion (λ pin. pin < m)) nets → 1 < m → IsOrder k nets m list → LastParted k nets (ending list)

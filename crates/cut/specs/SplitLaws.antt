@@ -1,6 +1,6 @@
 -- What holds of the split that the rounds find, for every price kind.
 use Rattle.std.specs.Prelude.{◌≡◌, ℕ, ◌<◌, Bool, true, false, List, length, get_or, Some, None, slice_index_or}
-use Rattle.std.specs.List.{AllByRecursion as All}
+use Rattle.std.specs.List.{AllByRecursion}
 use Rattle.price.specs.Kind.{Kind, NotGreater}
 use Rattle.netlist.specs.Nets.{Net, OnPins}
 use Rattle.netlist.specs.Places.{place, groups, Numbered}
@@ -33,7 +33,7 @@ pub record RoundsOutcome {P : Type 0} (k : Kind P) (nets : List (Net P)) (row : 
   pub fewer : groups row < 2 → (cheapest_of k (all_noted k nets row) ≡ None) × ((side : ℕ → Bool) → Lawful row side → ⊥)
 
 abbrev pub RoundsFindCheapest : {P : Type 0} → Kind P → Type 0
-RoundsFindCheapest {P} k = (nets : List (Net P)) (row : List ℕ) → Numbered 0 row → OnPins (All (λ pin. pin < length row)) nets → RoundsOutcome k nets row
+RoundsFindCheapest {P} k = (nets : List (Net P)) (row : List ℕ) → Numbered 0 row → OnPins (AllByRecursion (λ pin. pin < length row)) nets → RoundsOutcome k nets row
 
 -- Such a split of a meaning, with the price taken over the home nets that are not muted.
 pub record FoundFor {P : Type 0} (k : Kind P) (m : Meaning P) (split : Split P) : Type 0 where

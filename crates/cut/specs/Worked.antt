@@ -1,6 +1,6 @@
 -- Worked lines: what is asked of small netlists, and what the definitions answer.
 use Rattle.std.specs.Prelude.{◌≡◌, ℕ, ◌+◌, ◌*◌, ◌^◌, false, List, [], ◌∷◌, map, Some, None, Option}
-use Rattle.std.specs.List.{AllByRecursion as All}
+use Rattle.std.specs.List.{AllByRecursion}
 use Rattle.price.specs.Kind.{Kind}
 use Rattle.price.specs.Wires.{wires}
 use Rattle.price.specs.TimersFirst.{timers_first}
@@ -120,4 +120,4 @@ worked_lines =
     ∷ []
 
 abbrev pub WorkedLinesHold : Type 0
-WorkedLinesHold = All Holds worked_lines
+WorkedLinesHold = AllByRecursion Holds worked_lines

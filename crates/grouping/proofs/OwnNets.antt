@@ -1,7 +1,7 @@
 -- What holds of a netlist's own nets.
 use Rattle.std.proofs.Common.{◌≡◌, ℕ, zero, suc, ◌+◌, ◌<◌, ◌≤◌, max, Bool, true, false, List, [], ◌∷◌, map, length, refl, ap, ◌∙◌, ap₂, arith}
 use lib.ListN.{length-map}
-use Rattle.std.specs.List.{AllByRecursion as All}
+use Rattle.std.specs.List.{AllByRecursion}
 use Rattle.price.specs.Kind.{Kind}
 use Rattle.netlist.specs.Nets.{Net, OnPins, price_at}
 use Rattle.netlist.specs.Places.{place, groups, Numbered, placed}
@@ -34,19 +34,19 @@ module _ {P : Type 0} where
   placed_price_at row (net ∷ nets) zero = refl
   placed_price_at row (net ∷ nets) (suc i) = placed_price_at row nets i
 
-  placed_own : (row : List ℕ) (nets : List (Net P)) (b : ℕ) → OnPins (All (λ pin. pin < b)) nets → ((p : ℕ) → p < b → place row p ≡ p) → placed row nets ≡ nets
+  placed_own : (row : List ℕ) (nets : List (Net P)) (b : ℕ) → OnPins (AllByRecursion (λ pin. pin < b)) nets → ((p : ℕ) → p < b → place row p ≡ p) → placed row nets ≡ nets
   placed_own row [] b o f = refl
   placed_own row (net ∷ nets) b o f = ap₂ (λ x xs. record { price = net.price; pins = x } ∷ xs) (kept net.pins o.0) (placed_own row nets b o.1 f)
     where
-      kept : (ps : List ℕ) → All (λ pin. pin < b) ps → map (place row) ps ≡ ps
+      kept : (ps : List ℕ) → AllByRecursion (λ pin. pin < b) ps → map (place row) ps ≡ ps
       kept [] h = refl
       kept (p ∷ ps) h = ap₂ (λ (x : ℕ) xs. x ∷ xs) (f p h.0) (kept ps h.1)
 
-  placed_below : (b g : ℕ) (row : List ℕ) (nets : List (Net P)) → ((i : ℕ) → i < b → place row i < g) → OnPins (All (λ pin. pin < b)) nets → OnPins (All (λ pin. pin < g)) (placed row nets)
+  placed_below : (b g : ℕ) (row : List ℕ) (nets : List (Net P)) → ((i : ℕ) → i < b → place row i < g) → OnPins (AllByRecursion (λ pin. pin < b)) nets → OnPins (AllByRecursion (λ pin. pin < g)) (placed row nets)
   placed_below b g row [] f o = tt
   placed_below b g row (net ∷ nets) f o = (each net.pins o.0, placed_below b g row nets f o.1)
     where
-      each : (ps : List ℕ) → All (λ pin. pin < b) ps → All (λ pin. pin < g) (map (place row) ps)
+      each : (ps : List ℕ) → AllByRecursion (λ pin. pin < b) ps → AllByRecursion (λ pin. pin < g) (map (place row) ps)
       each [] h = tt
       each (p ∷ ps) h = (f p h.0, each ps h.1)
 
@@ -70,9 +70,9 @@ module _ {P : Type 0} (k : Kind P) where
   unfolding own_nets
   own_few_pins m s = placed_few_pins m.places (zero_muted k m.nets m.muted) (unmuted_there k (λ pins. length pins ≤ 64) m.nets m.muted s.few_pins)
 
-  pub own_there : (m : Meaning P) → Sound m → OnPins (All (λ pin. pin < modules m)) (own_nets k m)
+  pub own_there : (m : Meaning P) → Sound m → OnPins (AllByRecursion (λ pin. pin < modules m)) (own_nets k m)
   unfolding own_nets
-  own_there m s = placed_there m.places (zero_muted k m.nets m.muted) (unmuted_there k (All (λ pin. pin < homes m)) m.nets m.muted s.pins_there)
+  own_there m s = placed_there m.places (zero_muted k m.nets m.muted) (unmuted_there k (AllByRecursion (λ pin. pin < homes m)) m.nets m.muted s.pins_there)
 
   pub grouped_length : (m : Meaning P) (row : List ℕ) → length (grouped k m row) ≡ length m.nets
   unfolding grouped
@@ -86,6 +86,6 @@ module _ {P : Type 0} (k : Kind P) where
   unfolding grouped
   grouped_own m row s f = placed_own row (own_nets k m) (modules m) (own_there m s) (λ p h. f p (omega (arith, modules_few m s)))
 
-  pub grouped_there : (m : Meaning P) (g : ℕ) (row : List ℕ) → Sound m → ((i : ℕ) → i < modules m → place row i < g) → OnPins (All (λ pin. pin < g)) (grouped k m row)
+  pub grouped_there : (m : Meaning P) (g : ℕ) (row : List ℕ) → Sound m → ((i : ℕ) → i < modules m → place row i < g) → OnPins (AllByRecursion (λ pin. pin < g)) (grouped k m row)
   unfolding grouped
   grouped_there m g row s f = placed_below (modules m) g row (own_nets k m) f (own_there m s)

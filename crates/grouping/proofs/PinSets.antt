@@ -1,6 +1,6 @@
 -- A net's pins as a set, and the module at which the net pulls.
 use Rattle.std.proofs.Common.{◌≡◌, ℕ, zero, suc, ◌+◌, ◌<◌, ◌≤◌, Bool, true, false, not, ◌&&◌, ◌||◌, eqb, List, [], ◌∷◌, ◌++◌, map, length, get_or, take, set, IfSome, Some, None, Option, sym, refl, ap, ◌∙◌, subst, ⊎_elim, add-one, arith}
-use Rattle.std.specs.List.{slice_get, AllByRecursion as All}
+use Rattle.std.specs.List.{slice_get, AllByRecursion}
 use Rattle.std.proofs.lemmas.List.{take_all, get_or-set_same, get_or-set_other}
 use Rattle.std.proofs.lemmas.Bool.{both_ways, not-true, eqb-true, eq-eqb, cases_Bool, cases_lt, and_parts, and_from, or_cases, or_left, or_right}
 use Rattle.moduleset.specs.Words.{has as is_in, members, lone}
@@ -130,9 +130,9 @@ module _ {P : Type 0} (nets : List (Net P)) where
   pins_on A (net ∷ xs) zero z o = o.0
   pins_on A (net ∷ xs) (suc i) z o = pins_on A xs i z o.1
 
-  pub pin_below : (m i k p : ℕ) → OnPins (All (λ pin. pin < m)) nets → Some p ≡ pin_at nets i k → p < m
+  pub pin_below : (m i k p : ℕ) → OnPins (AllByRecursion (λ pin. pin < m)) nets → Some p ≡ pin_at nets i k → p < m
   pin_below m i k p o e =
-      all_member (λ pin. pin < m) (pins_of nets i) p (pins_on (All (λ pin. pin < m)) nets i tt o) (nth_member (pins_of nets i) k p (e ∙ pin_nth nets i k))
+      all_member (λ pin. pin < m) (pins_of nets i) p (pins_on (AllByRecursion (λ pin. pin < m)) nets i tt o) (nth_member (pins_of nets i) k p (e ∙ pin_nth nets i k))
 
   -- the set of the first k pins of net i, by a row of groups
   abbrev pub FirstPins : List ℕ → ℕ → ℕ → ℕ → Type 0

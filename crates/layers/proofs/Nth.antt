@@ -1,7 +1,7 @@
 -- What the element of a list at a place answers.
 use Rattle.std.proofs.Common.{◌≡◌, ℕ, zero, suc, ◌<◌, ◌≤◌, List, [], ◌∷◌, map, length, get_or, Some, None, sym, refl, subst, arith}
 use Rattle.std.specs.Option.{option_map}
-use Rattle.std.specs.List.{AllByRecursion as All, slice_get}
+use Rattle.std.specs.List.{AllByRecursion, slice_get}
 
 pub nth_map : {X Y : Type 0} (f : X → Y) (xs : List X) (i : ℕ) → slice_get (map f xs) i ≡ option_map f (slice_get xs i)
 nth_map f [] i = refl
@@ -11,7 +11,7 @@ nth_map f (x ∷ xs) (suc i) = nth_map f xs i
 pub none_there : {X : Type 0} (x : X) → Some x ≡ None → ⊥
 none_there x e = let z : ◌≡◌ {A = ℕ} 0 1 = cc in omega arith
 
-pub nth_all : {X : Type 0} (Q : X → Type 0) (xs : List X) (i : ℕ) (x : X) → All Q xs → Some x ≡ slice_get xs i → Q x
+pub nth_all : {X : Type 0} (Q : X → Type 0) (xs : List X) (i : ℕ) (x : X) → AllByRecursion Q xs → Some x ≡ slice_get xs i → Q x
 nth_all Q [] i x all e = absurd (none_there x e)
 nth_all Q (y ∷ ys) zero x all e = let same : y ≡ x = cc in subst Q same all.0
 nth_all Q (y ∷ ys) (suc i) x all e = nth_all Q ys i x all.1 e

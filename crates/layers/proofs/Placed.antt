@@ -2,7 +2,7 @@
 use Rattle.std.proofs.Common.{◌≡◌, ℕ, zero, suc, ◌<◌, Bool, List, [], ◌∷◌, map, length, Some, None, Option, sym, refl, ap, ◌∙◌, subst, ap₂, arith}
 use lib.ListN.{length-map}
 use Rattle.std.specs.Option.{option_map}
-use Rattle.std.specs.List.{AllByRecursion as All, slice_get}
+use Rattle.std.specs.List.{AllByRecursion, slice_get}
 use Rattle.price.specs.Kind.{Kind}
 use Rattle.netlist.specs.Nets.{Net, OnPins, pin_count_at, pin_at, price_at}
 use Rattle.netlist.specs.Places.{place, placed}
@@ -13,7 +13,7 @@ use Rattle.layers.specs.Layered.{strap_meaning}
 use Rattle.layers.proofs.Nth.{nth_map, nth_all, none_there}
 use Rattle.layers.specs.declared.strap.StrapLayer.{StrapLayer}
 
-pins_twice : (row places pins : List ℕ) → All (λ pin. pin < length places) pins → map (place (regrouped row places)) pins ≡ map (place row) (map (place places) pins)
+pins_twice : (row places pins : List ℕ) → AllByRecursion (λ pin. pin < length places) pins → map (place (regrouped row places)) pins ≡ map (place row) (map (place places) pins)
 pins_twice row places [] inside = refl
 pins_twice row places (pin ∷ pins) inside = ap₂ ◌∷◌ (place_map (place row) places pin inside.0) (pins_twice row places pins inside.1)
 
@@ -23,7 +23,7 @@ module _ {P : Type 0} where
   zero_muted_pins test k (net ∷ nets) [] all = (all.0, zero_muted_pins test k nets [] all.1)
   zero_muted_pins test k (net ∷ nets) (mark ∷ marks) all = (all.0, zero_muted_pins test k nets marks all.1)
 
-  placed_twice : (row places : List ℕ) (nets : List (Net P)) → OnPins (All (λ pin. pin < length places)) nets → placed (regrouped row places) nets ≡ placed row (placed places nets)
+  placed_twice : (row places : List ℕ) (nets : List (Net P)) → OnPins (AllByRecursion (λ pin. pin < length places)) nets → placed (regrouped row places) nets ≡ placed row (placed places nets)
   placed_twice row places [] inside = refl
   placed_twice row places (net ∷ nets) inside =
       ap₂ (λ pins rest. record { price = net.price; pins = pins } ∷ rest) (pins_twice row places net.pins inside.0) (placed_twice row places nets inside.1)
@@ -54,7 +54,7 @@ module _ {P N : Type 0} (below : N → Meaning P) (sound : (n : N) → Sound (be
   strap_nets =
       let m = below layer.below in
       placed_twice layer.row m.places (zero_muted k m.nets m.muted)
-      (zero_muted_pins (All (λ pin. pin < length m.places)) k m.nets m.muted (sound layer.below).pins_there)
+      (zero_muted_pins (AllByRecursion (λ pin. pin < length m.places)) k m.nets m.muted (sound layer.below).pins_there)
 
   pub strap_pin_count : (n : ℕ) (count : Option ℕ) → count ≡ pin_count_at (own_nets k (below layer.below)) n
       → count ≡ pin_count_at (own_nets k (strap_meaning below layer)) n
@@ -72,13 +72,13 @@ module _ {P N : Type 0} (below : N → Meaning P) (sound : (n : N) → Sound (be
 
 -- every place is below 64
 module _ {P : Type 0} (m : Meaning P) (sound : Sound m) where
-  few : All (λ p. p < 64) m.places
+  few : AllByRecursion (λ p. p < 64) m.places
   few = places_few m.places 0 64 (omega (arith, sound.few_homes)) sound.numbered
 
   pub place_low : (home p : ℕ) → Some p ≡ slice_get m.places home → p < 64
   place_low home p e = nth_all (λ q. q < 64) m.places home p few e
 
-  low_anywhere : (places : List ℕ) (i : ℕ) → All (λ p. p < 64) places → place places i < 64
+  low_anywhere : (places : List ℕ) (i : ℕ) → AllByRecursion (λ p. p < 64) places → place places i < 64
   low_anywhere [] i all = omega arith
   low_anywhere (p ∷ ps) zero all = all.0
   low_anywhere (p ∷ ps) (suc i) all = low_anywhere ps i all.1

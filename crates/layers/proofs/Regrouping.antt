@@ -1,6 +1,6 @@
 -- Rows that number groups in turn: how many groups they leave, and their numbering read either way.
 use Rattle.std.proofs.Common.{◌≡◌, ℕ, zero, suc, ◌+◌, ◌<◌, ◌≤◌, max, List, [], ◌∷◌, length, take, ap, arith}
-use Rattle.std.specs.List.{AllByRecursion as All}
+use Rattle.std.specs.List.{AllByRecursion}
 use Rattle.netlist.specs.Places.{place, groups, Numbered}
 use Rattle.netlist.specs.Meaning.{Meaning, Sound, modules}
 use Rattle.layers.specs.declared.strap.StrapLayer.{StrapLayer}
@@ -8,7 +8,7 @@ use Rattle.layers.specs.Rows.{regrouped, groups_in_turn, places_few}
 use Rattle.layers.specs.Layered.{strap_meaning}
 
 -- how many groups there are once the places are regrouped
-pub regrouped_groups : (row : List ℕ) (places : List ℕ) (t : ℕ) → All (λ p. p < length row) places → Numbered t places
+pub regrouped_groups : (row : List ℕ) (places : List ℕ) (t : ℕ) → AllByRecursion (λ p. p < length row) places → Numbered t places
     → max (groups (take t row)) (groups (regrouped row places)) ≡ groups (take (max t (groups places)) row)
 regrouped_groups row [] t inside w =
     let same : max t 0 ≡ t = omega arith in

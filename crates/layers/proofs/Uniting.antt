@@ -1,7 +1,7 @@
 -- Groups united in a strap layer's row, and what that makes of the layer's meaning.
 use Rattle.std.proofs.Common.{◌≡◌, ℕ, zero, suc, ◌<◌, ◌≤◌, eqb, List, [], ◌∷◌, length, take, None, Ok, sym, refl, ap, ◌∙◌, subst, ap₂, arith}
 use lib.ListN.{length-map}
-use Rattle.std.specs.List.{AllByRecursion as All}
+use Rattle.std.specs.List.{AllByRecursion}
 use Rattle.std.proofs.lemmas.Bool.{ne_eqb, cond-false}
 use Rattle.std.proofs.lemmas.Bool.Decides.{nat_tests}
 use Rattle.netlist.specs.Places.{place, groups, Numbered}
@@ -24,7 +24,7 @@ module _ (row : List ℕ) (n : ℕ) (long : length row ≡ n) (alone : (k : ℕ)
   pub alone_in_turn : InTurn row
   alone_in_turn i h = omega (arith, alone i (omega arith), alone_groups i (omega arith))
 
-  pub alone_regrouped : (places : List ℕ) → All (λ p. p < n) places → regrouped row places ≡ places
+  pub alone_regrouped : (places : List ℕ) → AllByRecursion (λ p. p < n) places → regrouped row places ≡ places
   alone_regrouped [] inside = refl
   alone_regrouped (p ∷ ps) inside = ap₂ ◌∷◌ (alone p inside.0) (alone_regrouped ps inside.1)
 
@@ -33,7 +33,7 @@ united_in_turn row v w turn hv hw apart i h =
     let numbered : Numbered 0 row = in_turn_numbered row 0 (λ j l. omega (arith, turn j l)) in
     omega (arith, numbered_in_turn (united v w row) 0 (uniting v w row numbered hv hw apart).numbered i h)
 
-regrouped_united : (row : List ℕ) (v w : ℕ) (places : List ℕ) → All (λ p. p < length row) places
+regrouped_united : (row : List ℕ) (v w : ℕ) (places : List ℕ) → AllByRecursion (λ p. p < length row) places
     → regrouped (united v w row) places ≡ united v w (regrouped row places)
 regrouped_united row v w [] inside = refl
 regrouped_united row v w (p ∷ ps) inside = ap₂ ◌∷◌ (place_map (united_place_lem v w) row p inside.0) (regrouped_united row v w ps inside.1)
@@ -49,7 +49,7 @@ module _ {P : Type 0} (a b : ℕ) (m : Meaning P) (free : strap_fault a b m ≡ 
   strapped_apart same = grind (arith, nat_tests)
 
 module _ {P N : Type 0} (below : N → Meaning P) (sound : (n : N) → Sound (below n)) (old : StrapLayer N) where
-  inside : All (λ p. p < length old.row) (below old.below).places
+  inside : AllByRecursion (λ p. p < length old.row) (below old.below).places
   inside =
       let s = sound old.below in
       places_few (below old.below).places 0 (length old.row) (omega (arith, s.few_homes, old.long)) s.numbered
@@ -58,7 +58,7 @@ module _ {P N : Type 0} (below : N → Meaning P) (sound : (n : N) → Sound (be
   pub place_is_group : (home : ℕ) → home < homes (strap_meaning below old) → place (strap_meaning below old).places home < groups old.row
   place_is_group home there = groups_all (below old.below).places home inside (subst (λ n. home < n) (length-map (below old.below).places (place old.row)) there)
     where
-      groups_all : (places : List ℕ) (i : ℕ) → All (λ p. p < length old.row) places → i < length places → place (regrouped old.row places) i < groups old.row
+      groups_all : (places : List ℕ) (i : ℕ) → AllByRecursion (λ p. p < length old.row) places → i < length places → place (regrouped old.row places) i < groups old.row
       groups_all [] i within h = absurd (omega arith)
       groups_all (p ∷ ps) zero within h = place_below_groups old.row p within.0
       groups_all (p ∷ ps) (suc i) within h = groups_all ps i within.1 (omega arith)

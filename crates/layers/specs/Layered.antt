@@ -2,7 +2,7 @@
 use Rattle.std.specs.Prelude.{◌≡◌, suc, ◌<◌, Bool, ◌||◌, List, [], ◌∷◌, length, refl}
 use Rattle.std.proofs.Common.{sym, ap, subst, ◌∙◌, arith}
 use Rattle.std.proofs.lemmas.List.{length-map}
-use Rattle.std.specs.List.{AllByRecursion as All}
+use Rattle.std.specs.List.{AllByRecursion}
 use Rattle.netlist.specs.Nets.{OnPins}
 use Rattle.netlist.specs.Places.{place}
 use Rattle.netlist.specs.Meaning.{Meaning, Sound}
@@ -40,7 +40,7 @@ strap_sound below sound layer =
       few_nets = s.few_nets;
       all_marked = s.all_marked;
       few_pins = s.few_pins;
-      pins_there = subst (λ n. OnPins (All (λ pin. pin < n)) m.nets) (sym same) s.pins_there;
+      pins_there = subst (λ n. OnPins (AllByRecursion (λ pin. pin < n)) m.nets) (sym same) s.pins_there;
     }
 
 pub length_muted_by_either : (marks row : List Bool) → length (muted_by_either marks row) ≡ length marks

@@ -1,7 +1,7 @@
 -- Rows that number the groups of a netlist's modules, and what such a row makes of the places below.
 use Rattle.std.specs.Prelude.{◌≡◌, ℕ, zero, suc, ◌+◌, ◌<◌, ◌≤◌, max, List, [], ◌∷◌, map, length, take}
 use Rattle.std.proofs.Common.{ap, subst, ◌∙◌, inl, inr, arith, eq-or-lt_of_le}
-use Rattle.std.specs.List.{AllByRecursion as All}
+use Rattle.std.specs.List.{AllByRecursion}
 use Rattle.netlist.specs.Places.{place, groups, Numbered}
 
 -- each module's group is at most one more than the greatest before it
@@ -45,7 +45,7 @@ place_in_turn row t p turn h l =
     ]
 
 -- numbering composes
-pub regrouped_numbered : (row : List ℕ) → InTurn row → (places : List ℕ) (t : ℕ) → All (λ p. p < length row) places → Numbered t places
+pub regrouped_numbered : (row : List ℕ) → InTurn row → (places : List ℕ) (t : ℕ) → AllByRecursion (λ p. p < length row) places → Numbered t places
     → Numbered (groups (take t row)) (regrouped row places)
 regrouped_numbered row turn [] t inside w = tt
 regrouped_numbered row turn (p ∷ ps) t inside w = (
@@ -54,6 +54,6 @@ regrouped_numbered row turn (p ∷ ps) t inside w = (
 )
 
 -- with t groups named before, each place is below the sum of t and the number of places
-pub places_few : (places : List ℕ) (t n : ℕ) → t + length places ≤ n → Numbered t places → All (λ p. p < n) places
+pub places_few : (places : List ℕ) (t n : ℕ) → t + length places ≤ n → Numbered t places → AllByRecursion (λ p. p < n) places
 places_few [] t n few w = tt
 places_few (p ∷ ps) t n few w = let low = w.0 in (omega arith, places_few ps (max (suc p) t) n (omega arith) w.1)

@@ -1,18 +1,17 @@
 -- The tables of an accepted page have no fault, and mean the page's netlist.
-use Rattle.std.proofs.Common.{◌≡◌, ℕ, zero, suc, ◌+◌, ◌-◌, ◌<◌, ◌≤◌, Bool, true, false, not, ◌||◌, eqb, ltb, leb, List, [], ◌∷◌, ◌++◌, length, get_or, take, drop, replicate, None, Ok, Err, Option, Result, sym, refl, ap, ◌∙◌, subst, ap₂, add-one, arith}
+use Rattle.std.proofs.Common.{◌≡◌, ℕ, ◌+◌, ◌-◌, ◌<◌, ◌≤◌, false, eqb, List, [], ◌∷◌, ◌++◌, length, get_or, take, drop, replicate, None, Ok, Err, Option, Result, sym, refl, ap, ◌∙◌, subst, ap₂, arith}
 use Rattle.std.specs.List.{range_with_len}
 use Rattle.std.proofs.lemmas.List.{take_at, drop_at, length-append, length-take-le}
-use Rattle.std.proofs.lemmas.Bool.{le-ltb, lt-leb, eq-eqb, ne_eqb}
+use Rattle.std.proofs.lemmas.Bool.{le-ltb, eq-eqb, ne_eqb}
 use Rattle.refusal.specs.declared.Fault.{Fault}
-use Rattle.refusal.specs.Checks.{fault_if, or_else, first_fault}
 use Rattle.refusal.proofs.CheckLaws.{first_of_none, or_none, or_else_none, fault_if_false}
 use Rattle.price.specs.Kind.{Kind}
 use Rattle.netlist.specs.Meaning.{Meaning}
 use Rattle.bottom.specs.BottomMeaning.{nets_from}
-use Rattle.bottom.specs.LoadFaults.{counts_fault, few_fault, net_fault, pins_fault, repeats, Loads}
+use Rattle.bottom.specs.LoadFaults.{counts_fault, few_fault, net_fault, pins_fault, Loads}
 use Rattle.bottom.proofs.FirstFaults.{some_of_none, pin_fine}
 use Rattle.pin_tables.specs.Tables.{net_pins as owned, disagree, few, tables_fault, tables_meaning}
-use Rattle.page.specs.Layout.{modules_field, nets_field, pin, pin_count, net_bit, net_pins, pins_table, starts_table, prices_table}
+use Rattle.page.specs.Layout.{modules_field, nets_field, pin_count, net_bit, net_pins, pins_table, starts_table, prices_table}
 use Rattle.page.specs.declared.counts.Counts.{Counts}
 use Rattle.page.specs.Faults.{page_fault, room_fault, unpack_fault}
 use Rattle.page.specs.Unpacking.{Extends, Filled}

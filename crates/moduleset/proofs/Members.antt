@@ -1,9 +1,9 @@
 -- Laws of the list of a set's members.
-use Rattle.std.proofs.Common.{◌≡◌, ℕ, zero, suc, ◌+◌, ◌-◌, ◌/◌, ◌%◌, ◌^◌, ◌<◌, ◌≤◌, Bool, true, false, cond, not, ◌&&◌, eqb, leb, ◌⊎◌, List, [], ◌∷◌, ◌++◌, length, get_or, drop, Some, None, Option, sym, refl, ap, ◌∙◌, subst, ap₂, inl, inr, ⊎_elim, mod-lt, add-one, arith, lit<, lit≤, shr-shr}
+use Rattle.std.proofs.Common.{◌≡◌, ℕ, zero, suc, ◌+◌, ◌-◌, ◌/◌, ◌%◌, ◌^◌, ◌<◌, ◌≤◌, Bool, true, false, cond, not, ◌&&◌, eqb, leb, ◌⊎◌, List, [], ◌∷◌, ◌++◌, length, get_or, drop, Some, None, sym, refl, ap, ◌∙◌, subst, ap₂, inl, inr, ⊎_elim, mod-lt, add-one, arith, lit<, lit≤, shr-shr}
 use native.Mathlib.Nat.{div-eq_of_lt}
 use lib.Bits.{bit_and}
 use lib.Count.{ones, ones_step}
-use Rattle.std.specs.List.{ContainsAt as Has, AllByRecursion as All, slice_get}
+use Rattle.std.specs.List.{ContainsAt as Has, AllByRecursion, slice_get}
 use Rattle.std.proofs.lemmas.Nat.{pow_below}
 use Rattle.std.proofs.ByRecursion.{All-append, All-get_or, All-weaker, has_append_left, has_append_right}
 use Rattle.std.proofs.lemmas.List.{length-append, append-nil, append_assoc, get_or_append_left, get_or_at}
@@ -127,7 +127,7 @@ nth_past_drop (x ∷ xs) (suc i) zero e h = absurd (omega arith)
 nth_past_drop (x ∷ xs) (suc i) (suc k) e h = nth_past_drop xs i k e (omega arith)
 
 -- the members are in the set, and every module of the set is a member
-all_below : (w n : ℕ) → All (λ k. (k < n) × (has w k ≡ true)) (members_below w n)
+all_below : (w n : ℕ) → AllByRecursion (λ k. (k < n) × (has w k ≡ true)) (members_below w n)
 unfolding members_below
 all_below w zero = tt
 all_below w (suc n) =
@@ -135,7 +135,7 @@ all_below w (suc n) =
     (All-weaker (λ k. (k < n) × (has w k ≡ true)) (λ k. (k < suc n) × (has w k ≡ true)) (λ k h. (omega arith, h.1)) (members_below w n) (all_below w n))
     (last (has w n) refl)
   where
-    last : (b : Bool) → has w n ≡ b → All (λ k. (k < suc n) × (has w k ≡ true)) (one n b)
+    last : (b : Bool) → has w n ≡ b → AllByRecursion (λ k. (k < suc n) × (has w k ≡ true)) (one n b)
     last true e = ((omega arith, e), tt)
     last false e = tt
 
@@ -161,7 +161,7 @@ has_member w k e =
     (r.0, r.1, r.2 0)
 
 -- a number after lower ones is the greatest
-rise_last : (xs : List ℕ) (n : ℕ) (b : Bool) (i j : ℕ) → All (λ k. k < n) xs → i < j → length xs ≤ j → j < length (xs ++ one n b) → get_or (xs ++ one n b) i 0 < get_or (xs ++ one n b) j 0
+rise_last : (xs : List ℕ) (n : ℕ) (b : Bool) (i j : ℕ) → AllByRecursion (λ k. k < n) xs → i < j → length xs ≤ j → j < length (xs ++ one n b) → get_or (xs ++ one n b) i 0 < get_or (xs ++ one n b) j 0
 rise_last xs n true i j f l q h =
     let e : j ≡ length xs = omega (arith, length-append xs (n ∷ [])) in
     omega (arith, get_or_append_left xs (n ∷ []) 0 i (omega arith), get_or_at xs n [] 0 j (sym e), All-get_or (λ k. k < n) xs i 0 (omega arith) f)
@@ -242,7 +242,7 @@ cases_le : (m n : ℕ) → (m ≤ n) ⊎ (n < m)
 cases_le m n = ⊎_elim inr inl (cases_lt n m)
 
 -- the members below m come first
-front_below : (w m n : ℕ) → m ≤ n → (rest : List ℕ) × (members_below w n ≡ members_below w m ++ rest) × All (λ k. m ≤ k) rest
+front_below : (w m n : ℕ) → m ≤ n → (rest : List ℕ) × (members_below w n ≡ members_below w m ++ rest) × AllByRecursion (λ k. m ≤ k) rest
 unfolding members_below
 front_below w m zero h = ([], (let e : 0 ≡ m = omega arith in ap (members_below w) e ∙ sym (append-nil (members_below w m))), tt)
 front_below w m (suc n) h = ⊎_elim (λ l. later (front_below w m n l) l) (λ l. ([], here l, tt)) (cases_le m n)
@@ -250,15 +250,15 @@ front_below w m (suc n) h = ⊎_elim (λ l. later (front_below w m n l) l) (λ l
     here : n < m → members_below w (suc n) ≡ members_below w m ++ []
     here l = let e : suc n ≡ m = omega arith in ap (members_below w) e ∙ sym (append-nil (members_below w m))
 
-    later : (rest : List ℕ) × (members_below w n ≡ members_below w m ++ rest) × All (λ k. m ≤ k) rest → m ≤ n
-        → (rest : List ℕ) × (members_below w n ++ one n (has w n) ≡ members_below w m ++ rest) × All (λ k. m ≤ k) rest
+    later : (rest : List ℕ) × (members_below w n ≡ members_below w m ++ rest) × AllByRecursion (λ k. m ≤ k) rest → m ≤ n
+        → (rest : List ℕ) × (members_below w n ++ one n (has w n) ≡ members_below w m ++ rest) × AllByRecursion (λ k. m ≤ k) rest
     later (rest, e, f) l = (
       rest ++ one n (has w n),
       ap (λ xs. xs ++ one n (has w n)) e ∙ append_assoc (members_below w m) rest (one n (has w n)),
       All-append (λ k. m ≤ k) rest (one n (has w n)) f (last (has w n) l),
     )
       where
-        last : (b : Bool) → m ≤ n → All (λ k. m ≤ k) (one n b)
+        last : (b : Bool) → m ≤ n → AllByRecursion (λ k. m ≤ k) (one n b)
         last true q = (q, tt)
         last false q = tt
 
@@ -280,13 +280,13 @@ module _ (w w' m : ℕ) (small : m ≤ 64) (front : (k : ℕ) → k < 64 → has
       (λ q. let e : suc n ≡ m = omega arith in same_below (suc n) (omega arith) ∙ ap (members_below w) e)
       (cases_le m n)
 
-  pub members_front : (rest : List ℕ) × (members w ≡ members w' ++ rest) × All (λ k. k < m) (members w') × All (λ k. m ≤ k) rest
+  pub members_front : (rest : List ℕ) × (members w ≡ members w' ++ rest) × AllByRecursion (λ k. k < m) (members w') × AllByRecursion (λ k. m ≤ k) rest
   unfolding members
   members_front =
       let r = front_below w m 64 small in
       let e : members_below w' 64 ≡ members_below w m = none_past 64 small (lit≤ tt) in (
         r.0,
         r.1 ∙ ap (λ xs. xs ++ r.0) (sym e),
-        subst (All (λ k. k < m)) (sym e) (All-weaker (λ k. (k < m) × (has w k ≡ true)) (λ k. k < m) (λ k t. t.0) (members_below w m) (all_below w m)),
+        subst (AllByRecursion (λ k. k < m)) (sym e) (All-weaker (λ k. (k < m) × (has w k ≡ true)) (λ k. k < m) (λ k t. t.0) (members_below w m) (all_below w m)),
         r.2,
       )

@@ -1,5 +1,5 @@
 -- Laws of the sets of modules, by what they have.
-use Rattle.std.proofs.Common.{◌≡◌, ℕ, zero, suc, ◌+◌, ◌-◌, ◌/◌, ◌%◌, ◌^◌, ◌<◌, ◌≤◌, Bool, true, false, cond, not, ◌&&◌, ◌||◌, eqb, ltb, leb, Decides, sym, refl, ap, ◌∙◌, ap₂, ⊎_elim, arith, lit<, pow_mono}
+use Rattle.std.proofs.Common.{◌≡◌, ℕ, suc, ◌+◌, ◌-◌, ◌/◌, ◌^◌, ◌<◌, ◌≤◌, Bool, true, false, not, ◌&&◌, ◌||◌, eqb, ltb, leb, Decides, sym, refl, ap, ◌∙◌, ap₂, ⊎_elim, arith, lit<, pow_mono}
 use lib.Bits.{bit_and, bit_or, and_mask, and_le_l}
 use lib.Count.{count_leading_zeros, leading_top}
 use Rattle.std.proofs.lemmas.Bool.{eq-eqb, ne_eqb, eqb-true, eqb-false, cases_lt, cases_order, lt-ltb, le-ltb, le-leb, lt-leb, and_left, and_from, and_parts, false≢true, both_ways, not-true, not_from_false}

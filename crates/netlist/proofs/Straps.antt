@@ -1,6 +1,6 @@
 -- A strap keeps a row numbered and asks of sides that its ends are on one side; straps and mutes keep a meaning sound.
 use Rattle.std.proofs.Common.{◌≡◌, ℕ, ◌<◌, ◌≤◌, Bool, true, false, cond, eqb, List, length, sym, refl, ◌∙◌, subst, inl, inr, ⊎_elim, length-set}
-use Rattle.std.specs.List.{AllByRecursion as All}
+use Rattle.std.specs.List.{AllByRecursion}
 use Rattle.std.proofs.lemmas.Bool.{eqb-true, eqb-false}
 use Rattle.netlist.specs.Nets.{OnPins}
 use Rattle.netlist.specs.Places.{place, Numbered}
@@ -57,7 +57,7 @@ straps_keep_sound_lem P m i j s hi hj =
       few_nets = s.few_nets;
       all_marked = s.all_marked;
       few_pins = s.few_pins;
-      pins_there = subst (λ z. OnPins (All (λ pin. pin < z)) m.nets) (sym r.as_long) s.pins_there;
+      pins_there = subst (λ z. OnPins (AllByRecursion (λ pin. pin < z)) m.nets) (sym r.as_long) s.pins_there;
     }
 
 pub mutes_keep_sound_lem : (P : Type 0) → MutesKeepSound P

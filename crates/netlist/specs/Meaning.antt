@@ -1,6 +1,6 @@
 -- What a netlist means.
 use Rattle.std.specs.Prelude.{◌≡◌, ℕ, ◌<◌, ◌≤◌, Bool, cond, List, [], ◌∷◌, length}
-use Rattle.std.specs.List.{AllByRecursion as All}
+use Rattle.std.specs.List.{AllByRecursion}
 use Rattle.price.specs.Kind.{Kind}
 use Rattle.netlist.specs.Nets.{Net, OnPins}
 use Rattle.netlist.specs.Places.{groups, Numbered, placed}
@@ -25,7 +25,7 @@ pub record Sound {P : Type 0} (m : Meaning P) : Type 0 where
   pub few_nets : length m.nets ≤ 1024
   pub all_marked : length m.muted ≡ length m.nets
   pub few_pins : OnPins (λ pins. length pins ≤ 64) m.nets
-  pub pins_there : OnPins (All (λ pin. pin < homes m)) m.nets
+  pub pins_there : OnPins (AllByRecursion (λ pin. pin < homes m)) m.nets
 
 -- the nets at price zero where muted
 abbrev pub zero_muted : {P : Type 0} → Kind P → List (Net P) → List Bool → List (Net P)

@@ -1,7 +1,7 @@
 -- What an accepted page's fields and tables are known to say.
-use Rattle.std.proofs.Common.{◌≡◌, ℕ, zero, suc, ◌+◌, ◌-◌, ◌<◌, ◌≤◌, Bool, true, false, not, eqb, ltb, List, [], ◌∷◌, ◌++◌, length, get_or, take, drop, None, sym, refl, ap, ◌∙◌, subst, inl, inr, add-one, arith}
-use Rattle.std.proofs.lemmas.List.{append_assoc, append-nil, get_or_append_left, get_or_push, take_at, drop_at}
-use Rattle.std.proofs.lemmas.Bool.{cases_lt, or_parts, ltb-false, ltb-true, eqb-false, eq-eqb}
+use Rattle.std.proofs.Common.{◌≡◌, ℕ, zero, suc, ◌<◌, ◌≤◌, Bool, true, false, not, eqb, ltb, List, [], ◌∷◌, ◌++◌, length, get_or, None, sym, refl, ap, ◌∙◌, subst, inl, inr, arith}
+use Rattle.std.proofs.lemmas.List.{append_assoc, append-nil, get_or_append_left, get_or_push}
+use Rattle.std.proofs.lemmas.Bool.{cases_lt, or_parts, ltb-false, ltb-true, eqb-false}
 use Rattle.refusal.specs.declared.Place.TheVariants.{Bit}
 use Rattle.refusal.specs.declared.Fault.TheVariants.{OtherKind, TooManyModules, TooManyNets, TooFewPins, NoSuchModule, RepeatedPin}
 use Rattle.refusal.specs.Checks.{or_else, fault_if, first_fault}

@@ -1,8 +1,7 @@
 -- Laws of a whole page's fault: which of its parts tells it.
-use Rattle.std.proofs.Common.{◌≡◌, ℕ, List, length, Some, None, Option, sym, ap, ◌∙◌, subst}
+use Rattle.std.proofs.Common.{◌≡◌, ℕ, List, length, Some, None, Option, ap, ◌∙◌, subst}
 use Rattle.refusal.specs.declared.Fault.{Fault}
 use Rattle.page.specs.Layout.{modules_field, nets_field, net_bit, pins_table}
-use Rattle.refusal.specs.Checks.{or_else}
 use Rattle.page.specs.Faults.{header_fault, nets_fault, pad_fault, room_fault, page_fault, unpack_fault}
 use Rattle.refusal.proofs.CheckLaws.{or_some, or_none}
 

@@ -1,5 +1,5 @@
 -- Why a page is refused, if it is: the checks in their order, of which the first that fails is told.
-use Rattle.std.specs.Prelude.{ℕ, zero, suc, ◌+◌, ◌-◌, ◌*◌, ◌/◌, Bool, true, false, not, ◌||◌, List, length, Some, None, Option, ◌==◌, nat_lt}
+use Rattle.std.specs.Prelude.{ℕ, zero, suc, ◌+◌, ◌-◌, ◌*◌, ◌/◌, Bool, false, not, ◌||◌, List, length, Option, ◌==◌, nat_lt}
 use Rattle.refusal.specs.declared.Place.TheVariants.{Bit}
 use Rattle.refusal.specs.declared.Fault.{Fault}
 use Rattle.refusal.specs.declared.Fault.TheVariants.{PageEnds, OtherKind, TooManyModules, TooManyNets, TooFewPins, NoSuchModule, RepeatedPin, AfterLastNet, TooShort}

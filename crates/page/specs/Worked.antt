@@ -1,5 +1,5 @@
 -- Worked pages: what the definitions say of a page of 3 modules and 2 nets, and of two that are spoiled.
-use Rattle.std.specs.Prelude.{◌≡◌, ℕ, List, [], ◌∷◌, ◌++◌, map, length, take, Some, None}
+use Rattle.std.specs.Prelude.{◌≡◌, ℕ, List, [], ◌∷◌, ◌++◌, map, length, Some, None}
 use Rattle.refusal.specs.declared.Place.TheVariants.{Bit}
 use Rattle.refusal.specs.declared.Fault.{Fault}
 use Rattle.refusal.specs.Faults.{number, place}

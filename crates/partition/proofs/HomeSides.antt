@@ -1,6 +1,6 @@
 -- From the modules' sides to the home modules' sides, and the answer of a split.
-use Rattle.std.proofs.Common.{◌≡◌, ℕ, zero, suc, ◌-◌, ◌^◌, ◌<◌, ◌≤◌, Bool, true, false, cond, ◌&&◌, eqb, ltb, ◌⊎◌, List, [], ◌∷◌, length, Some, None, Ok, Err, Option, sym, refl, ap, ◌∙◌, subst, ⊎_elim, arith}
-use Rattle.std.specs.List.{slice_get, AllByRecursion as All}
+use Rattle.std.proofs.Common.{◌≡◌, ℕ, zero, suc, ◌-◌, ◌^◌, ◌<◌, ◌≤◌, Bool, true, false, cond, ◌&&◌, eqb, ltb, List, [], ◌∷◌, length, Some, None, Ok, Err, Option, sym, refl, ap, ◌∙◌, subst, ⊎_elim, arith}
+use Rattle.std.specs.List.{slice_get, AllByRecursion}
 use Rattle.std.proofs.lemmas.Bool.{le-ltb, lt-ltb, cases_lt}
 use Rattle.refusal.specs.declared.Fault.{Fault}
 use Rattle.refusal.specs.declared.Fault.TheVariants.{TooShort, TooFewGroups}
@@ -49,12 +49,12 @@ module _ (n : ℕ) (side : ℕ → Bool) (few : n ≤ 64) where
   word_is set fits f = same_sets set (sides_word n side) fits (sides_word_has_each_side_lem n side few).fits (λ i h. f i h ∙ sym (word_has i h))
 
 -- the same sides of the home modules, and the same price
-module _ {P : Type 0} (k : Kind P) (l : Laws k) (row : List ℕ) (nets : List (Net P)) (there : OnPins (All (λ pin. pin < length row)) nets) (a b : Split P)
+module _ {P : Type 0} (k : Kind P) (l : Laws k) (row : List ℕ) (nets : List (Net P)) (there : OnPins (AllByRecursion (λ pin. pin < length row)) nets) (a b : Split P)
     (price : b.price ≡ a.price) (sides : (i : ℕ) → i < length row → b.side i ≡ a.side i) where
   price_like : split_price k b.side nets ≡ split_price k a.side nets
   price_like =
       total_like k l (crosses b.side) (crosses a.side) nets
-      (on_pins_map (All (λ pin. pin < length row)) (λ ps. crosses b.side ps ≡ crosses a.side ps) nets
+      (on_pins_map (AllByRecursion (λ pin. pin < length row)) (λ ps. crosses b.side ps ≡ crosses a.side ps) nets
       (λ ps h. crosses_like b.side a.side ps (λ p i. sides p (all_member (λ pin. pin < length row) ps p h i))) there)
 
   pub cheapest_like : Cheapest k row nets a → Cheapest k row nets b
@@ -107,7 +107,7 @@ module _ {P : Type 0} (k : Kind P) (l : Laws k) (m : Meaning P) (s : Sound m) (c
         answered = refl;
         sides = word_is (homes m) split.side s.few_homes word fits bits;
         price = price_is;
-        cheapest = cheapest_like k l m.places (unmuted m) (unmarked_there (All (λ pin. pin < homes m)) m.nets m.muted s.pins_there) split
+        cheapest = cheapest_like k l m.places (unmuted m) (unmarked_there (AllByRecursion (λ pin. pin < homes m)) m.nets m.muted s.pins_there) split
             (told (record { sides = word; price = p })) price_is
             (λ i h. bits i (omega (arith, s.few_homes)) ∙ ap (λ b. b && split.side i) (lt-ltb i (homes m) h)) out.2.cheapest;
         zeroed = zeroed;

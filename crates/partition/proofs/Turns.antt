@@ -1,6 +1,6 @@
 -- What an order's loop keeps from turn to turn.
 use Rattle.std.proofs.Common.{◌≡◌, ℕ, zero, suc, ◌+◌, ◌<◌, ◌≤◌, Bool, true, false, ◌||◌, eqb, leb, List, [], ◌∷◌, ◌++◌, length, get_or, take, drop, set, sym, refl, ap, ◌∙◌, subst, ap₂, arith, take-append-drop}
-use Rattle.std.specs.List.{AllByRecursion as All}
+use Rattle.std.specs.List.{AllByRecursion}
 use Rattle.std.proofs.lemmas.List.{take_more, take_more_set, take_all}
 use Rattle.std.proofs.lemmas.Bool.{both_ways, or_parts, lt-leb, leb-false}
 use Rattle.moduleset.specs.Words.{has as is_in}
@@ -51,7 +51,7 @@ module _ {P : Type 0} (k : Kind P) (l : Laws k) (nets : List (Net P)) where
   turn_start (suc m) taken price [] z h f = absurd (omega arith)
   turn_start (suc m) taken price (x ∷ bytes) z h f = record { front = refl; word = f; cost = λ j e q. absurd (omega arith) }
 
-  module _ (m s taken : ℕ) (price : P) (bytes : List ℕ) (there : OnPins (All (λ pin. pin < m)) nets) (z : 0 < s) (h : s < m) (few : m ≤ 64) (a : Turn k nets m s taken price bytes) where
+  module _ (m s taken : ℕ) (price : P) (bytes : List ℕ) (there : OnPins (AllByRecursion (λ pin. pin < m)) nets) (z : 0 < s) (h : s < m) (few : m ≤ 64) (a : Turn k nets m s taken price bytes) where
     alike : AlikeBelow m (is_in taken) (has (take s (order k nets m)))
     alike p b = a.word p (omega arith) ∙ ap (λ x. has (take s (order k nets m)) p || x) (lt-leb m p b) ∙ none (has (take s (order k nets m)) p)
       where
@@ -99,7 +99,7 @@ module _ {P : Type 0} (k : Kind P) (l : Laws k) (nets : List (Net P)) where
   turn_bytes m taken price bytes old a e =
       sym (take-append-drop m bytes) ∙ ap₂ (λ xs ys. xs ++ ys) (a.front ∙ take_all m (order k nets m) (omega (arith, length_order k l nets m))) e
 
-  pub turn_price : (m taken : ℕ) (price : P) (bytes : List ℕ) → 1 < m → OnPins (All (λ pin. pin < m)) nets → Turn k nets m m taken price bytes
+  pub turn_price : (m taken : ℕ) (price : P) (bytes : List ℕ) → 1 < m → OnPins (AllByRecursion (λ pin. pin < m)) nets → Turn k nets m m taken price bytes
       → price ≡ split_price k (alone (ending (order k nets m)).last) nets
   turn_price zero taken price bytes h there a = absurd (omega arith)
   turn_price (suc zero) taken price bytes h there a = absurd (omega arith)

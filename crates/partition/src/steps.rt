@@ -1,6 +1,6 @@
 //! The order of a round's groups, step by step.
 ghost use Rattle.std.specs.Prelude.{◌≡◌, ℕ, ◌<◌, ◌≤◌, List, ◌++◌, length, drop};
-ghost use Rattle.std.specs.List.{AllByRecursion as All};
+ghost use Rattle.std.specs.List.{AllByRecursion};
 ghost use Rattle.netlist.specs.Nets.{OnPins};
 ghost use Rattle.cut.specs.Cuts.{split_price, alone};
 ghost use Rattle.cut.specs.Orders.{order as order_in, ending};
@@ -22,7 +22,7 @@ pub(crate) fn order_groups<N: Netlist>(
     count: u8,
 ) -> N::Price
     requires masks { MasksOf masks.now.words (grouped N.Price.Price.kind (N.meaning netlist.now) masks.now.row) }
-    requires there { OnPins (All (λ pin. pin < count)) (grouped N.Price.Price.kind (N.meaning netlist.now) masks.now.row) }
+    requires there { OnPins (AllByRecursion (λ pin. pin < count)) (grouped N.Price.Price.kind (N.meaning netlist.now) masks.now.row) }
     requires two { 1 < count }
     requires few { count ≤ 64 }
     requires room { count ≤ length cells.old }

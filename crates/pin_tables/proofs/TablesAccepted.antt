@@ -1,5 +1,5 @@
 -- What is known of tables that pass the checks.
-use Rattle.std.proofs.Common.{◌≡◌, ℕ, zero, suc, ◌+◌, ◌<◌, ◌≤◌, false, not, eqb, List, length, get_or, None, Ok, sym, refl, ap, subst, inl, inr, add-one, arith}
+use Rattle.std.proofs.Common.{◌≡◌, ℕ, zero, suc, ◌+◌, ◌<◌, ◌≤◌, false, not, eqb, List, length, get_or, Ok, sym, ap, subst, inl, inr, add-one, arith}
 use Rattle.std.proofs.lemmas.Bool.{cases_lt, or_parts, not-false, eqb-true, ltb-false}
 use Rattle.refusal.specs.declared.Fault.TheVariants.{TablesDisagree}
 use Rattle.refusal.specs.Checks.{fault_if}

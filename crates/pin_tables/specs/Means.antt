@@ -1,5 +1,4 @@
 -- What loaded pin tables mean.
-use Rattle.std.specs.Prelude.{length}
 use Rattle.netlist.specs.Meaning.{Meaning, Sound}
 use Rattle.bottom.specs.Fitting.{bottom_sound}
 use Rattle.pin_tables.specs.declared.PinTables.{PinTables}

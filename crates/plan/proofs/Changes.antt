@@ -1,13 +1,12 @@
 -- What changes leave of a meaning, and which sides keep the groups once they are applied.
-use Rattle.std.proofs.Common.{◌≡◌, ℕ, ◌<◌, Bool, true, false, cond, ◌&&◌, ltb, List, [], ◌∷◌, length, set, Some, None, Option, sym, refl, ap, ◌∙◌, subst, arith, length-set}
+use Rattle.std.proofs.Common.{◌≡◌, ℕ, ◌<◌, Bool, true, false, cond, ◌&&◌, ltb, List, [], ◌∷◌, length, set, Some, None, Option, sym, refl, ap, ◌∙◌, subst, arith}
 use lib.ListN.{length-map}
-use Rattle.std.proofs.lemmas.Bool.{lt-ltb, ltb-true, and_from, cond-true}
-use Rattle.std.proofs.lemmas.Bool.Decides.{nat_tests}
+use Rattle.std.proofs.lemmas.Bool.{lt-ltb, and_from, cond-true}
 use Rattle.refusal.specs.Checks.{or_else}
 use Rattle.refusal.specs.declared.Fault.{Fault}
 use Rattle.netlist.specs.Places.{place}
 use Rattle.netlist.specs.Meaning.{Meaning, Sound, homes}
-use Rattle.netlist.specs.Changes.{strapped, strapped_row, united, united_place_lem}
+use Rattle.netlist.specs.Changes.{strapped, united, united_place_lem}
 use Rattle.netlist.specs.Strapping.{KeepsGroups}
 use Rattle.netlist.proofs.Straps.{strapping}
 use Rattle.layers.specs.Refusals.{strap_fault}

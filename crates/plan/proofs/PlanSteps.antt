@@ -1,6 +1,5 @@
 -- Calls on a plan, from what was checked and what was left.
-use Rattle.std.proofs.Common.{◌≡◌, ℕ, zero, suc, ◌+◌, ◌-◌, ◌<◌, ◌≤◌, List, [], ◌∷◌, length, get_or, take, set, Some, None, Ok, Err, Option, Result, sym, refl, ap, ◌∙◌, subst, ap₂, add-one, arith, length-take, get_or-set_other, get_or-take, get_or-set_same}
-use Rattle.std.proofs.lemmas.Bool.{lt-ltb, le-ltb, cond-true, cond-false}
+use Rattle.std.proofs.Common.{◌≡◌, ℕ, zero, suc, ◌+◌, ◌-◌, ◌<◌, ◌≤◌, List, ◌∷◌, length, take, set, Some, None, Ok, Err, Option, Result, sym, refl, ap, ◌∙◌, subst, ap₂, add-one, arith, length-take, get_or-set_other, get_or-take, get_or-set_same}
 use Rattle.std.proofs.lemmas.Bool.Decides.{nat_tests}
 use Rattle.std.specs.Result.{result_and}
 use Rattle.refusal.specs.Checks.{or_else}
@@ -8,12 +7,11 @@ use Rattle.refusal.specs.declared.Fault.{Fault}
 use Rattle.refusal.specs.declared.Fault.TheVariants.{NothingToTakeBack}
 use Rattle.price.specs.Kind.{Kind, Laws}
 use Rattle.netlist.specs.Meaning.{Meaning, Sound, homes}
-use Rattle.cut.specs.Rounds.{split_of}
 use Rattle.cut.specs.declared.found.FoundSplit.{FoundSplit}
 use Rattle.layers.specs.Changed.{Straps, Mutes}
 use Rattle.layers.specs.Refusals.{strap_fault, mute_fault, Checked}
 use Rattle.partition.specs.Pulls.{cleared}
-use Rattle.partition.specs.Splits.{SplitAnswer, SplitCall, split_fault}
+use Rattle.partition.specs.Splits.{SplitAnswer, split_fault}
 use Rattle.standing.specs.declared.change.Change.{Change}
 use Rattle.standing.specs.declared.change.Change.TheVariants.{Strapped}
 use Rattle.plan.specs.declared.calls.Answer.{Answer}
@@ -25,8 +23,7 @@ use Rattle.standing.specs.Standing.{applied, latest_first}
 use Rattle.plan.specs.Reckoning.{Call, strap, mute, take_back, split, look, full_fault, empty_fault, refusal, without_latest, changed, left_by, answered, found, shown_then, shown_by, told, accepted_answer, answer_by}
 use Rattle.plan.specs.Runs.{Leaves, answer_to}
 use Rattle.plan.specs.Plans.{standing_changes, plan_meaning}
-use Rattle.plan.specs.PlanCalls.{of_change, of_split, refusal_on, CallOn, cells_left}
-use Rattle.standing.proofs.Layering.{no_none}
+use Rattle.plan.specs.PlanCalls.{of_change, refusal_on, CallOn, cells_left}
 use Rattle.plan.proofs.Changes.{homes_applied, second_passed}
 use Rattle.plan.proofs.Promised.{keeps_promise, look_free}
 

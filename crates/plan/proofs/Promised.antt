@@ -11,7 +11,7 @@ use Rattle.standing.specs.declared.change.Change.{Change}
 use Rattle.plan.specs.declared.calls.Answer.{Answer}
 use Rattle.plan.specs.declared.calls.Answer.TheVariants.{Done, Refused, Found, Absent}
 use Rattle.standing.specs.Standing.{applied}
-use Rattle.plan.specs.Reckoning.{Call, strap, mute, take_back, split, look, split_fault, refusal, left_by, stand_after, stand, found, shown_by, told, answer_by}
+use Rattle.plan.specs.Reckoning.{Call, strap, mute, take_back, split, look, refusal, left_by, stand_after, stand, found, shown_by, told, answer_by}
 use Rattle.plan.specs.Promise.{LawfulSplit, Truthful, Idle, Latest, Promise}
 use Rattle.plan.specs.Runs.{Leaves, answer_to, shown_after, answers_of, Ran, KeepsPromise}
 use Rattle.standing.proofs.Layering.{no_none}

@@ -1,16 +1,14 @@
 -- The split that is found where changes stand is truthful, and what stands is right in the netlist's own terms.
-use Rattle.std.proofs.Common.{◌≡◌, ℕ, ◌-◌, ◌/◌, ◌%◌, ◌^◌, ◌<◌, ◌≤◌, Bool, true, false, cond, ◌&&◌, eqb, ltb, ◌⊎◌, List, [], ◌∷◌, length, Some, None, Option, sym, refl, ap, ◌∙◌, subst, ap₂, inl, inr, ⊎_elim, arith}
-use Rattle.std.specs.List.{AllByRecursion as All}
+use Rattle.std.proofs.Common.{◌≡◌, ℕ, ◌<◌, ◌≤◌, Bool, true, false, cond, ◌&&◌, eqb, ltb, List, [], ◌∷◌, length, Some, None, sym, refl, ap, ◌∙◌, subst, ap₂, ⊎_elim, arith}
+use Rattle.std.specs.List.{AllByRecursion}
 use Rattle.std.proofs.lemmas.Bool.{cases_lt, lt-ltb, eq-eqb, eqb-true}
 use Rattle.price.specs.Kind.{Kind, Laws, NotGreater}
 use Rattle.netlist.specs.Nets.{Net, OnPins}
 use Rattle.netlist.specs.Places.{place}
 use Rattle.netlist.specs.Meaning.{Meaning, Sound, homes, modules}
-use Rattle.netlist.specs.Strapping.{KeepsGroups}
 use Rattle.cut.specs.Cuts.{crosses, split_price}
 use Rattle.cut.specs.Lawful as lawful
 use Rattle.cut.specs.Lawful.{Lawful, unmarked, unmuted}
-use Rattle.cut.specs.Rounds.{split_of}
 use Rattle.cut.specs.SidesWord.{sides_word}
 use Rattle.cut.specs.SplitLaws.{FoundFor}
 use Rattle.cut.specs.declared.found.FoundSplit.{FoundSplit}
@@ -22,7 +20,7 @@ use Rattle.standing.specs.declared.change.Change.{Change}
 use Rattle.standing.specs.Standing.{applied}
 use Rattle.standing.specs.StandingSound.{applied_sound}
 use Rattle.plan.specs.Reckoning.{answered, found}
-use Rattle.plan.specs.Promise.{LawfulSplit, marked, true_price, side_of, Truthful, KeepsAll, StandingRight}
+use Rattle.plan.specs.Promise.{LawfulSplit, true_price, side_of, Truthful, KeepsAll, StandingRight}
 use Rattle.standing.proofs.Layering.{no_none}
 use Rattle.plan.proofs.Changes.{nets_applied, homes_applied, mutes_applied, Named, keeps_both}
 
@@ -46,11 +44,11 @@ lawful_like row c d like l = record {
   keeps_groups = λ i j hi hj e. like i hi ∙ (l.keeps_groups i j hi hj e ∙ sym (like j hj));
 }
 
-price_like : {P : Type 0} (k : Kind P) → Laws k → (n : ℕ) (c d : ℕ → Bool) (nets : List (Net P)) → OnPins (All (λ pin. pin < n)) nets → AlikeBelow n c d
+price_like : {P : Type 0} (k : Kind P) → Laws k → (n : ℕ) (c d : ℕ → Bool) (nets : List (Net P)) → OnPins (AllByRecursion (λ pin. pin < n)) nets → AlikeBelow n c d
     → split_price k c nets ≡ split_price k d nets
 price_like k l n c d nets there like =
     total_like k l (crosses c) (crosses d) nets
-    (on_pins_map (All (λ pin. pin < n)) (λ pins. crosses c pins ≡ crosses d pins) nets
+    (on_pins_map (AllByRecursion (λ pin. pin < n)) (λ pins. crosses c pins ≡ crosses d pins) nets
     (λ pins low. crosses_like c d pins (λ p h. like p (all_member (λ pin. pin < n) pins p low h))) there)
 
 unmarked_there : {P : Type 0} (test : List ℕ → Type 0) (nets : List (Net P)) (marks : List Bool) → OnPins test nets → OnPins test (unmarked nets marks)
@@ -117,7 +115,7 @@ module _ {P : Type 0} (k : Kind P) (l : Laws k) (m : Meaning P) (s : Sound m) wh
           price_true =
               c.true_price
               ∙ (sym (price_like k l (length row) (side_of (sides_word (length row) v.side)) v.side (unmuted (applied m cs))
-              (unmarked_there (All (λ pin. pin < length row)) (applied m cs).nets (applied m cs).muted sound.pins_there) like)
+              (unmarked_there (AllByRecursion (λ pin. pin < length row)) (applied m cs).nets (applied m cs).muted sound.pins_there) like)
               ∙ true_prices cs (side_of (sides_word (length row) v.side)));
           none_cheaper = λ side o. subst (λ p. NotGreater k v.price p) (true_prices cs side) (c.none_cheaper side (to_lawful side o));
           first_on_a = like 0 low ∙ f.first_on_a;

@@ -1,5 +1,5 @@
 -- What a plan is: the netlist below it, the changes that stand and the split that is shown.
-use Rattle.std.specs.Prelude.{◌≡◌, List, [], Option}
+use Rattle.std.specs.Prelude.{List}
 use Rattle.netlist.specs.Meaning.{Meaning, Sound}
 use Rattle.standing.specs.declared.change.Change.{Change}
 use Rattle.price.specs.declared.Price.{Ghosts as PriceGhosts}

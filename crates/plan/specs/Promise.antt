@@ -14,7 +14,7 @@ use Rattle.standing.specs.declared.change.Change.TheVariants.{Strapped, Muted}
 use Rattle.plan.specs.declared.calls.Answer.{Answer}
 use Rattle.plan.specs.declared.calls.Answer.TheVariants.{Done, Refused, Found, Absent}
 use Rattle.standing.specs.Standing.{applied}
-use Rattle.plan.specs.Reckoning.{Call, strap, mute, take_back, split, look, refusal, stand}
+use Rattle.plan.specs.Reckoning.{Call, split, look, refusal, stand}
 
 -- both ends of each standing strap are on one board
 abbrev pub StrapsKept : List Change → (ℕ → Bool) → Type 0

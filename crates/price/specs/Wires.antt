@@ -1,5 +1,5 @@
 -- Kind 1: a number of wires, joined by an addition that stops at 2^64 - 1.
-use Rattle.std.specs.Prelude.{ℕ, ◌+◌, ◌-◌, ◌%◌, ◌^◌, min, Bool, nat_lt}
+use Rattle.std.specs.Prelude.{ℕ, ◌+◌, ◌-◌, ◌^◌, min, nat_lt}
 use Rattle.std.proofs.Common.{arith}
 use Rattle.price.specs.declared.values.Wires.{Wires}
 use Rattle.price.specs.Kind.{Kind}

@@ -1,7 +1,7 @@
 //! Kind 2, timers first: compared by timers, and on equal timers by wires.
 ghost use Rattle.price.specs.TimersFirst.{timers_first};
 ghost use Rattle.price.specs.KindLaws.{timers_first_laws};
-ghost use Rattle.std.proofs.Common.{rules, arith};
+ghost use Rattle.std.proofs.Common.{rules};
 
 use crate::Price;
 use crate::values::TimersFirst;
@@ -13,7 +13,7 @@ impl Price for TimersFirst {
 
     ghost lawful = { timers_first_laws };
 
-    ghost small = { first_of (Prim.search rules, Prim.grind (arith, Self.row.coded.inj)) };
+    ghost small = { Prim.search rules };
 
     fn number() -> u8 {
         Self::PAGE_NUMBER

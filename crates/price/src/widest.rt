@@ -1,7 +1,7 @@
 //! Kind 3, widest: a number, joined by taking the greater.
 ghost use Rattle.price.specs.Widest.{widest as widest_kind};
 ghost use Rattle.price.specs.KindLaws.{widest_laws};
-ghost use Rattle.std.proofs.Common.{rules, arith};
+ghost use Rattle.std.proofs.Common.{rules};
 
 use crate::Price;
 use crate::values::Widest;
@@ -13,7 +13,7 @@ impl Price for Widest {
 
     ghost lawful = { widest_laws };
 
-    ghost small = { first_of (Prim.search rules, Prim.grind (arith, Self.row.coded.inj)) };
+    ghost small = { Prim.search rules };
 
     fn number() -> u8 {
         Self::PAGE_NUMBER

@@ -1,7 +1,7 @@
 //! Kind 1, wires: a number, joined by an addition that stops at the greatest.
 ghost use Rattle.price.specs.Wires.{wires as wires_kind};
 ghost use Rattle.price.specs.KindLaws.{wires_laws};
-ghost use Rattle.std.proofs.Common.{rules, arith};
+ghost use Rattle.std.proofs.Common.{rules};
 
 use crate::Price;
 use crate::values::Wires;
@@ -13,7 +13,7 @@ impl Price for Wires {
 
     ghost lawful = { wires_laws };
 
-    ghost small = { first_of (Prim.search rules, Prim.grind (arith, Self.row.coded.inj)) };
+    ghost small = { Prim.search rules };
 
     fn number() -> u8 {
         Self::PAGE_NUMBER

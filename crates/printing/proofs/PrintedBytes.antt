@@ -1,5 +1,5 @@
 -- What is printed of a page and a script, from what a buffer that is long enough holds.
-use Rattle.std.proofs.Common.{◌≡◌, ℕ, ◌*◌, ◌<◌, ◌≤◌, List, ◌++◌, length, take, drop, Some, None, Ok, Err, Option, Result, Vec, sym, refl, ap, ◌∙◌, subst, ⊎_elim, arith}
+use Rattle.std.proofs.Common.{◌≡◌, ℕ, ◌*◌, ◌≤◌, List, length, take, drop, Some, None, Ok, Err, Option, Vec, sym, ap, ◌∙◌, subst, ⊎_elim, arith}
 use Rattle.std.specs.Vec.{with_items}
 use Rattle.std.proofs.lemmas.List.{take_at, with_items_is}
 use Rattle.std.proofs.lemmas.Bool.{cases_lt}

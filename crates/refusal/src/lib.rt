@@ -2,7 +2,7 @@
 #![tactic(auto)]
 
 ghost use Rattle.std.specs.Prelude.{◌≡◌};
-ghost use Rattle.refusal.specs.Faults.{number as number_of_lem, place as place_of, place_number};
+ghost use Rattle.refusal.specs.Faults.{number as number_of, place as place_of, place_number};
 
 /// Where a fault was found.
 #[derive(Clone, Copy, PartialEq, Eq, Debug)]
@@ -78,7 +78,7 @@ pub enum Fault {
 impl Fault {
     /// The refusal's number, 1 to 18.
     pub fn number(&self) -> u8
-        ensures { result ≡ number_of_lem self.now }
+        ensures { result ≡ number_of self.now }
     {
         match self {
             Fault::PageEnds { .. } => 1,

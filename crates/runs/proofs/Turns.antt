@@ -1,20 +1,17 @@
 -- The turns of a run: what holds so far, of one call more, and at the end.
-use Rattle.std.proofs.Common.{◌≡◌, ℕ, zero, suc, ◌+◌, ◌<◌, ◌≤◌, min, List, [], ◌∷◌, map, length, get_or, take, drop, set, None, Option, sym, refl, ap, ◌∙◌, subst, inl, inr, ⊎_elim, arith, get_or-set_other, get_or-set_same}
+use Rattle.std.proofs.Common.{◌≡◌, ℕ, zero, suc, ◌+◌, ◌<◌, min, List, [], ◌∷◌, map, length, get_or, take, drop, set, sym, refl, ap, ◌∙◌, subst, ⊎_elim, arith, get_or-set_other, get_or-set_same}
 use Rattle.std.proofs.lemmas.Bool.{cases_lt}
-use Rattle.refusal.specs.declared.Fault.{Fault}
 use Rattle.price.specs.Kind.{Kind, Laws}
 use Rattle.netlist.specs.Meaning.{Meaning, Sound, homes}
-use Rattle.cut.specs.declared.found.FoundSplit.{FoundSplit}
-use Rattle.standing.specs.declared.change.Change.{Change}
 use Rattle.plan.specs.declared.calls.Asked.{Asked}
 use Rattle.plan.specs.declared.calls.Asked.TheVariants.{Look}
 use Rattle.plan.specs.declared.calls.Answer.{Answer}
 use Rattle.price.specs.declared.Price.{Ghosts as PriceGhosts}
 use Rattle.netlist.specs.declared.Netlist.{Ghosts as NetlistGhosts}
 use Rattle.plan.specs.declared.plans.Plan.{Plan}
-use Rattle.plan.specs.Reckoning.{Call, call_of, refusal, stand}
+use Rattle.plan.specs.Reckoning.{call_of, refusal, stand}
 use Rattle.plan.specs.Promise.{Promise}
-use Rattle.plan.specs.Runs.{answers_of, Ran}
+use Rattle.plan.specs.Runs.{Ran}
 use Rattle.plan.specs.Plans.{standing_changes}
 use Rattle.plan.specs.PlanCalls.{LedTo, refusal_on, CallOn, CallLeft}
 use Rattle.plan.proofs.Histories.{same_item, same_rest, one_more_answered}

@@ -1,8 +1,8 @@
 -- Bytes parted at a byte: there is one way.
-use Rattle.std.proofs.Common.{◌≡◌, ℕ, ◌+◌, ◌^◌, ◌<◌, List, [], ◌∷◌, ◌++◌, decimal, sym, refl, ap, ◌∙◌, arith}
+use Rattle.std.proofs.Common.{◌≡◌, ℕ, ◌^◌, ◌<◌, List, [], ◌∷◌, ◌++◌, decimal, refl, arith}
 use Rattle.std.proofs.ByRecursion.{All-push}
 use Rattle.std.proofs.lemmas.Fmt.{decimal_by_steps}
-use Rattle.script.specs.Pieces.{Without, Parted}
+use Rattle.script.specs.Pieces.{Without}
 
 -- a part that has the byte is not without it
 pub has_byte : (byte : ℕ) (before after : List ℕ) → Without byte (before ++ byte ∷ after) → ⊥

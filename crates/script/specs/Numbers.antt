@@ -1,5 +1,5 @@
 -- The numbers of a script line.
-use Rattle.std.specs.Prelude.{◌≡◌, ℕ, ◌<◌, List, ◌∷◌, ◌++◌, Some, decimal, Option}
+use Rattle.std.specs.Prelude.{◌≡◌, ℕ, ◌<◌, List, Some, decimal, Option}
 
 -- the bytes are a number of 1 to 4 digits
 pub record IsNumber (bytes : List ℕ) (n : ℕ) : Type 0 where

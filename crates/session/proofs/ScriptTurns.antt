@@ -1,5 +1,5 @@
 -- The turns of a script: what holds so far, of one line more, and at the end.
-use Rattle.std.proofs.Common.{◌≡◌, ℕ, ◌+◌, ◌*◌, ◌<◌, ◌≤◌, List, [], ◌∷◌, ◌++◌, length, take, drop, Some, None, Option, sym, refl, ap, ◌∙◌, subst, append_assoc, arith}
+use Rattle.std.proofs.Common.{◌≡◌, ℕ, ◌+◌, ◌*◌, ◌≤◌, List, [], ◌∷◌, ◌++◌, length, take, drop, Some, None, Option, sym, refl, ap, ◌∙◌, subst, append_assoc, arith}
 use Rattle.std.proofs.lemmas.List.{length-append, take_at, drop_at, drop-drop, take-append-drop, append-nil}
 use Rattle.price.specs.Kind.{Kind, Laws}
 use Rattle.netlist.specs.Meaning.{Meaning, Sound, homes}
@@ -11,12 +11,12 @@ use Rattle.plan.specs.Reckoning.{Call, refusal, stand}
 use Rattle.plan.specs.Promise.{Promise}
 use Rattle.plan.specs.Runs.{Ran}
 use Rattle.plan.specs.Plans.{standing_changes}
-use Rattle.plan.specs.PlanCalls.{LedTo, refusal_on, CallOn}
+use Rattle.plan.specs.PlanCalls.{LedTo, refusal_on}
 use Rattle.plan.proofs.Promised.{promised}
 use Rattle.lines.specs.Lines.{line_bytes, refused_line}
 use Rattle.refusal.specs.declared.Fault.TheVariants.{LineNotUnderstood}
 use Rattle.script.specs.declared.commands.Command.{Command}
-use Rattle.script.specs.Commands.{Says, Understood}
+use Rattle.script.specs.Commands.{Understood}
 use Rattle.script.specs.Scripts.{lines_of, FirstLine}
 use Rattle.session.specs.LineRuns.{PutAt, OutcomeAt, LineAt, call_of, cells_after}
 use Rattle.session.specs.ScriptRuns.{Told, nothing, said, unsaid, ScriptWritten}

@@ -1,5 +1,5 @@
 -- Changes keep a meaning sound.
-use Rattle.std.specs.Prelude.{◌≡◌, ℕ, Bool, true, false, cond, ◌&&◌, List, [], ◌∷◌, length, nat_lt, refl}
+use Rattle.std.specs.Prelude.{◌≡◌, Bool, true, false, cond, ◌&&◌, List, [], ◌∷◌, nat_lt, refl}
 use Rattle.std.proofs.Common.{◌∙◌, length-set}
 use Rattle.std.proofs.lemmas.Bool.{ltb-true}
 use Rattle.netlist.specs.Meaning.{Meaning, Sound, homes}

@@ -29,4 +29,4 @@ abbrev pub refused_lines : List Line
 refused_lines = split_refused 1 17 ∷ []
 
 abbrev pub worked_lines : List Line
-worked_lines = map of_page pages.worked-pages ++ map of_netlist netlists.worked-lines ++ refused_lines
+worked_lines = map of_page pages.worked_pages ++ map of_netlist netlists.worked_lines ++ refused_lines

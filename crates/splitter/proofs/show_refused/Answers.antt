@@ -1,4 +1,4 @@
-use Rattle.std.proofs.Common.{◌≡◌, ℕ, ◌≤◌, List, ◌++◌, length, drop, ap, ◌∙◌, arith, rules}
+use Rattle.std.proofs.Common.{◌≡◌, ℕ, ◌≤◌, List, ◌++◌, length, drop, ap, arith, rules}
 use Rattle.std.proofs.lemmas.List.{length-append}
 use Rattle.lines.specs.Lines.{page_line}
 use Rattle.splitter.proofs.show_refused.Goals as goal

@@ -1,4 +1,4 @@
-use Rattle.std.proofs.Common.{refl, ◌∙◌, rules}
+use Rattle.std.proofs.Common.{refl, ◌∙◌}
 use Rattle.standing.specs.LentMeaning.{standing_meaning}
 use Rattle.standing.proofs.Layering.{next_applied}
 use Rattle.standing.proofs.standing.Goals as goal

@@ -1,20 +1,20 @@
 use Rattle.std.proofs.Common.{List, [], ◌∷◌, ◌++◌, map, refl}
-use Rattle.std.specs.List.{AllByRecursion as All}
+use Rattle.std.specs.List.{AllByRecursion}
 use Rattle.refusal.specs.declared.Fault.TheVariants.{TooFewGroups}
 use Rattle.page.specs.Worked as pages
 use Rattle.cut.specs.Worked as netlists
 use Rattle.worked.specs.Lines.{Line, of_page, of_netlist, refused_lines, Stands}
 use Rattle.worked.proofs.worked_lines_stand.Goals as goal
 
-pages_then : (lines : List pages.Line) (rest : List Line) → pages.AllStand lines → All Stands rest → All Stands (map of_page lines ++ rest)
+pages_then : (lines : List pages.Line) (rest : List Line) → pages.AllStand lines → AllByRecursion Stands rest → AllByRecursion Stands (map of_page lines ++ rest)
 pages_then [] rest p q = q
 pages_then (line ∷ lines) rest p q = (p.0, pages_then lines rest p.1 q)
 
-netlists_then : (lines : List netlists.Line) (rest : List Line) → All netlists.Holds lines → All Stands rest → All Stands (map of_netlist lines ++ rest)
+netlists_then : (lines : List netlists.Line) (rest : List Line) → AllByRecursion netlists.Holds lines → AllByRecursion Stands rest → AllByRecursion Stands (map of_netlist lines ++ rest)
 netlists_then [] rest p q = q
 netlists_then (line ∷ lines) rest p q = (p.0, netlists_then lines rest p.1 q)
 
-last : All Stands refused_lines
+last : AllByRecursion Stands refused_lines
 last = (record { fault = TooFewGroups; told = refl; number_is = refl }, tt)
 
 pub returns : goal.returns

@@ -1,4 +1,4 @@
-use Rattle.std.proofs.Common.{◌≡◌, ℕ, length, subst}
+use Rattle.std.proofs.Common.{ℕ, length, subst}
 use Rattle.bottom.specs.LoadFaults.{pins_fault}
 use Rattle.bottom.specs.Fitting.{PinsThere}
 use Rattle.bottom.proofs.FirstFaults.{accepted, counts_accepted, pins_there}

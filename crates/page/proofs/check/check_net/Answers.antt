@@ -1,9 +1,9 @@
-use Rattle.std.proofs.Common.{◌≡◌, ℕ, ◌<◌, ◌≤◌, Some, None, Option, sym, ap, ◌∙◌, subst, arith}
+use Rattle.std.proofs.Common.{◌≡◌, ℕ, Option, ◌∙◌, subst, arith}
 use Rattle.std.proofs.lemmas.Result.{err_from_is_err_and}
 use Rattle.refusal.specs.declared.Fault.{Fault}
 use Rattle.page.specs.Layout.{pin_bit, pin_count, price_bit}
 use Rattle.refusal.specs.Checks.{first_fault}
-use Rattle.page.specs.Faults.{ends, pin_fault, net_fault}
+use Rattle.page.specs.Faults.{ends, pin_fault}
 use Rattle.page.proofs.PinLaws.{net_ends, net_few, net_pin, net_price}
 use Rattle.page.proofs.check.check_net.Goals as goal
 

@@ -1,6 +1,6 @@
-use Rattle.std.proofs.Common.{◌≡◌, ℕ, ◌*◌, ◌^◌, ◌<◌, ◌≤◌, length, sym, ap, ◌∙◌, subst, arith}
+use Rattle.std.proofs.Common.{ℕ, length, ap, ◌∙◌, arith}
 use Rattle.std.proofs.lemmas.Result.{err_from_is_err_and}
-use Rattle.page.specs.Layout.{nets_field, net_bit, pins_table}
+use Rattle.page.specs.Layout.{pins_table}
 use Rattle.page.proofs.PageLaws.{header_told, nets_told, pad_told, room_told}
 use Rattle.page.proofs.check.check_page.Goals as goal
 

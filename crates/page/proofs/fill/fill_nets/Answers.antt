@@ -1,6 +1,6 @@
-use Rattle.std.proofs.Common.{◌≡◌, ℕ, ◌+◌, ◌≤◌, ◌++◌, length, drop, set, sym, refl, ap, ◌∙◌, arith}
+use Rattle.std.proofs.Common.{◌≡◌, ◌+◌, set, sym, refl, ap, ◌∙◌, arith}
 use Rattle.std.proofs.lemmas.List.{drop-set-lt, length-set}
-use Rattle.page.specs.Layout.{net_bit, net_end, pin_count, pins_table, starts_table, prices_table}
+use Rattle.page.specs.Layout.{net_bit, net_end, pin_count, pins_table, prices_table}
 use Rattle.page.proofs.TableLaws.{bit_rises, pins_rise, starts_none, bit_more, count_more, pins_fit, starts_put, pins_put, prices_put, length_starts, length_prices}
 use Rattle.page.proofs.fill.fill_nets.Goals as goal
 

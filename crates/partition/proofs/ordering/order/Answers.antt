@@ -1,5 +1,5 @@
 use Rattle.std.proofs.Common.{◌≡◌, ℕ, ◌<◌, sym, ap, ◌∙◌, subst, arith}
-use Rattle.std.specs.List.{AllByRecursion as All}
+use Rattle.std.specs.List.{AllByRecursion}
 use Rattle.netlist.specs.Nets.{OnPins}
 use Rattle.netlist.specs.Meaning.{own_nets}
 use Rattle.grouping.specs.Masks.{grouped, MasksOf}
@@ -38,8 +38,8 @@ order_groups-requires g c =
     record {
       masks = subst (λ row. MasksOf c.gather-masks.result.words (grouped k m row)) (sym c.gather-masks.ensures.same)
           (masks_all k m c.singles.result c.gather-masks.result.words c.singles.ensures.small c.gather-masks.ensures.words);
-      there = subst (OnPins (All (λ pin. pin < c.module_count-count.result))) (sym own)
-          (subst (λ (x : ℕ). OnPins (All (λ pin. pin < x)) (own_nets k m)) (sym c.module_count-count.ensures) (own_there k m s));
+      there = subst (OnPins (AllByRecursion (λ pin. pin < c.module_count-count.result))) (sym own)
+          (subst (λ (x : ℕ). OnPins (AllByRecursion (λ pin. pin < x)) (own_nets k m)) (sym c.module_count-count.ensures) (own_there k m s));
       two = omega arith;
       few = omega (arith, modules_few m s);
       room = omega arith;

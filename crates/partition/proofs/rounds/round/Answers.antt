@@ -1,5 +1,5 @@
 use Rattle.std.proofs.Common.{◌<◌, sym, subst}
-use Rattle.std.specs.List.{AllByRecursion as All}
+use Rattle.std.specs.List.{AllByRecursion}
 use Rattle.netlist.specs.Nets.{OnPins}
 use Rattle.grouping.specs.Masks.{grouped, MasksOf}
 use Rattle.grouping.proofs.PinSets.{masks_all}
@@ -15,7 +15,7 @@ order_groups-price-requires g c =
     let same = c.gather-masks.ensures.same in
     record {
       masks = subst (λ row. MasksOf c.gather-masks.result.words (grouped k m row)) (sym same) (masks_all k m c.args.row c.gather-masks.result.words c.requires.row.small c.gather-masks.ensures.words);
-      there = subst (λ row. OnPins (All (λ pin. pin < c.args.count)) (grouped k m row)) (sym same) (grouped_there k m c.args.count c.args.row s c.requires.row.below);
+      there = subst (λ row. OnPins (AllByRecursion (λ pin. pin < c.args.count)) (grouped k m row)) (sym same) (grouped_there k m c.args.count c.args.row s c.requires.row.below);
       two = c.requires.two;
       few = c.requires.few;
       room = c.requires.room;

@@ -1,4 +1,4 @@
-use Rattle.std.proofs.Common.{sym, ap, arith}
+use Rattle.std.proofs.Common.{sym, ap}
 use Rattle.std.proofs.lemmas.Bool.{lt-ltb, le-ltb}
 use Rattle.bottom.specs.LoadFaults.{checked}
 use Rattle.refusal.proofs.CheckLaws.{first_none, first_more, first_at, fault_if_true, fault_if_false}

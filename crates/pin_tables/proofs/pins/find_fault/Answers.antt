@@ -1,4 +1,4 @@
-use Rattle.std.proofs.Common.{◌≡◌, ℕ, false, eqb, length, get_or, sym, refl, ap, ◌∙◌, subst, arith}
+use Rattle.std.proofs.Common.{◌≡◌, ℕ, false, eqb, length, get_or, sym, refl, subst, arith}
 use Rattle.std.proofs.lemmas.Bool.{ne_eqb}
 use Rattle.bottom.specs.LoadFaults.{pin_fault, some_below, repeats}
 use Rattle.refusal.proofs.CheckLaws.{first_none, first_more, first_at}

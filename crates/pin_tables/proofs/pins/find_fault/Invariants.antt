@@ -1,4 +1,4 @@
-use Rattle.std.proofs.Common.{◌≡◌, false, eqb, get_or, Some, None}
+use Rattle.std.proofs.Common.{◌≡◌, false, eqb, get_or, None}
 use Rattle.refusal.specs.Checks.{first_fault}
 use Rattle.bottom.specs.LoadFaults.{pin_fault, some_below}
 use Rattle.pin_tables.proofs.pins.find_fault.Given as goal

@@ -1,4 +1,4 @@
-use Rattle.std.proofs.Common.{◌≡◌, ◌<◌, length, refl, ap, subst, arith, rules}
+use Rattle.std.proofs.Common.{◌≡◌, refl, ap, subst, arith}
 use Rattle.runs.specs.RunCalls.{RunOf}
 use Rattle.runs.proofs.Turns.{run_starts, run_goes_on, run_ends}
 use Rattle.runs.proofs.running.run.Goals as goal

@@ -1,6 +1,6 @@
-use Rattle.std.proofs.Common.{◌≡◌, ℕ, ◌+◌, ◌-◌, ◌*◌, ◌/◌, ◌<◌, ◌≤◌, List, length, take, Some, None, decimal, sym, refl, ap, ⊎_elim, arith, rules}
+use Rattle.std.proofs.Common.{◌≡◌, ℕ, ◌-◌, ◌/◌, ◌<◌, List, length, take, refl, ⊎_elim, arith, rules}
 use Rattle.script.specs.Numbers.{IsNumber}
-use Rattle.script.proofs.Digits.{never_read, number_read, some_digits, few_digits, last_digit, Parted, long_parted, longer_number, digit_number, below_power}
+use Rattle.script.proofs.Digits.{never_read, number_read, some_digits, few_digits, last_digit, long_parted, longer_number, digit_number}
 use Rattle.script.proofs.numbers.+number.Goals as goal
 
 pub returns-then-count-eq0 : goal.returns-then-count-eq0

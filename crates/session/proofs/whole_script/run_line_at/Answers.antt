@@ -1,5 +1,4 @@
-use Rattle.std.proofs.Common.{◌≡◌, ◌+◌, ◌-◌, arith}
-use Rattle.session.specs.LineRuns.{LineAt}
+use Rattle.std.proofs.Common.{◌+◌, ◌-◌, arith}
 use Rattle.session.proofs.LinesRun.{line_put_at, next_near}
 use Rattle.session.proofs.whole_script.run_line_at.Goals as goal
 

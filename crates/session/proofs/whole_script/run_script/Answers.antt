@@ -1,5 +1,4 @@
-use Rattle.std.proofs.Common.{◌*◌, ◌≤◌, length, refl, ap, subst, arith}
-use Rattle.script.specs.Scripts.{lines_of}
+use Rattle.std.proofs.Common.{refl, ap, subst, arith}
 use Rattle.script.proofs.Lines.{rest_shorter}
 use Rattle.session.specs.ScriptRuns.{ScriptWritten}
 use Rattle.session.proofs.ScriptTurns.{starts, goes_on, ends}

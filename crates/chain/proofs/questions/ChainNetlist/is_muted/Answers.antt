@@ -1,4 +1,4 @@
-use Rattle.std.proofs.Common.{◌-◌, ◌<◌, ◌≤◌, false, length, replicate, sym, ap, ◌∙◌, arith}
+use Rattle.std.proofs.Common.{◌-◌, false, length, sym, arith}
 use lib.ListN.{length-replicate}
 use Rattle.price.specs.Wires.{wires_of}
 use Rattle.bottom.proofs.Asked.{unmuted, unmuted_absent}

@@ -1,4 +1,4 @@
-use Rattle.std.proofs.Common.{sym, ap, ◌∙◌, subst}
+use Rattle.std.proofs.Common.{sym, ap, subst}
 use Rattle.layers.specs.Refusals.{mute_fault, Checked}
 use Rattle.standing.specs.LentMeaning.{standing_meaning}
 use Rattle.plan.specs.Reckoning.{mute}

@@ -1,4 +1,4 @@
-use Rattle.std.proofs.Common.{sym, ap, ◌∙◌, subst}
+use Rattle.std.proofs.Common.{sym, ap, subst}
 use Rattle.layers.specs.Layered.{strap_meaning}
 use Rattle.layers.specs.Refusals.{strap_fault, Checked}
 use Rattle.standing.specs.LentMeaning.{lent_meaning}

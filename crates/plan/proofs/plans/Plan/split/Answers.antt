@@ -1,8 +1,8 @@
-use Rattle.std.proofs.Common.{◌≡◌, length, Err, sym, refl, ap, ◌∙◌, subst}
+use Rattle.std.proofs.Common.{length, Err, sym, refl, ap, ◌∙◌, subst}
 use Rattle.std.proofs.lemmas.Result.{err_from_is_err_and}
 use Rattle.partition.specs.Splits.{split_fault}
 use Rattle.plan.specs.Reckoning.{split}
-use Rattle.plan.specs.Plans.{standing_changes, plan_meaning}
+use Rattle.plan.specs.Plans.{plan_meaning}
 use Rattle.plan.specs.PlanCalls.{of_split, CallOn}
 use Rattle.plan.proofs.PlanSteps.{split_refused_by, split_found_by, refused_on, split_done, split_refusal, split_cells_stay, split_cells_zeroed}
 use Rattle.plan.proofs.plans.Plan.split.Goals as goal

@@ -1,4 +1,4 @@
-use Rattle.std.proofs.Common.{refl, ◌∙◌, arith, rules}
+use Rattle.std.proofs.Common.{refl, ◌∙◌}
 use Rattle.refusal.specs.declared.Fault.TheVariants.{NothingToTakeBack}
 use Rattle.plan.specs.Reckoning.{take_back}
 use Rattle.plan.specs.Plans.{standing_changes}
