@@ -5,7 +5,8 @@ usage: python3 tools/port/respell.py     at the top of the repository, once, str
 
 It goes by text, over specs/, proofs/, the clauses and `ghost use` lines of src/, the edits of must-fail/ and the names in backquotes of
 README.md and docs/. Names that Rattle makes (goals, steps, their fields) and names of the kit's library stay. A definition that would get the
-name of a function gets `_lem`. It prints the names that two old names fall together in, and stops before it writes any.
+name of a function gets `_lem`. It prints each name that two old names fall together in: here there are none.
+With --list it prints all names, old and new, and writes nothing.
 """
 import os
 import re
