@@ -1,16 +1,19 @@
 -- The first fault of a row: the pins below the count come first, and none repeats.
-use Rattle.std.proofs.Common.{◌≡◌, ℕ, ◌+◌, ◌-◌, ◌<◌, ◌≤◌, false, not, ◌&&◌, eqb, leb, length, get_or, Some, None, refl, ap, ◌∙◌, subst, arith}
+use Rattle.std.proofs.Common.{◌≡◌, ℕ, ◌+◌, ◌-◌, ◌<◌, ◌≤◌, false, not, ◌&&◌, eqb, leb, List, length, get_or, Some, None, Option, refl, ap, ◌∙◌, subst, arith}
+use Rattle.std.specs.List.{AllWithin, HoldsAt}
+use Rattle.std.specs.Option.{MatchOption, option_map}
 use Rattle.std.proofs.ByRecursion.{All-get_or}
 use Rattle.std.proofs.lemmas.List.{length-append, get_or_append_left, get_or-append_right}
-use Rattle.std.proofs.lemmas.Bool.{ne_eqb}
-use Rattle.refusal.specs.declared.Place.TheVariants.{Pin}
-use Rattle.refusal.specs.declared.Fault.TheVariants.{NoSuchModule}
+use Rattle.std.proofs.lemmas.Bool.{ne_eqb, lt-ltb, le-ltb}
+use Rattle.refusal.specs.declared.Place.TheVariants.{Net, Pin}
+use Rattle.refusal.specs.declared.Fault.TheVariants.{TooFewPins, NoSuchModule}
 use Rattle.moduleset.specs.Words.{has, members}
 use Rattle.moduleset.proofs.Members.{members_rise, members_front}
 use Rattle.refusal.specs.Checks.{first_fault}
-use Rattle.bottom.specs.LoadFaults.{pin_fault, net_fault, repeats}
+use Rattle.bottom.specs.LoadFaults.{few_fault, pin_fault, net_fault, repeats}
 use Rattle.refusal.proofs.CheckLaws.{first_of_none, first_at}
-use Rattle.bottom.proofs.FirstFaults.{some_of_none, pin_missing, pin_fine}
+use Rattle.bottom.proofs.FirstFaults.{some_of_none, few_searched, pin_missing, pin_fine}
+use Rattle.bit_rows.specs.Rows.{few}
 
 -- rising pins do not repeat
 no_repeat : (w position : ℕ) → position < length (members w) → repeats (members w) position ≡ false
@@ -49,3 +52,12 @@ module _ (modules net w there : ℕ) (small : modules ≤ 64) (are : (k : ℕ) �
 
   pub row_fine : length (members w) ≤ length (members there) → net_fault modules net (members w) ≡ None
   row_fine h = let e : length (members there) ≡ length (members w) = omega (arith, no_more) in subst (λ (n : ℕ). first_fault (pin_fault modules net (members w)) n ≡ None) e none_before
+
+-- the first row with fewer than two pins
+pub few_found : (rows : List ℕ) (r : Option ℕ)
+    → MatchOption r (AllWithin (λ w. 2 ≤ length (members w)) rows 0 (length rows))
+    (λ net. (net < length rows) × HoldsAt (λ w. length (members w) < 2) rows net × AllWithin (λ w. 2 ≤ length (members w)) rows 0 net)
+    → option_map (λ net. TooFewPins (Net net)) r ≡ few_fault (few rows) (length rows)
+few_found rows None none = few_searched (few rows) (length rows) None (λ net h. le-ltb _ _ (none net 0 (omega arith) h))
+few_found rows (Some found) h =
+    few_searched (few rows) (length rows) (Some found) (h.0, lt-ltb _ _ (h.1 0), λ net l. le-ltb _ _ (h.2 net 0 (omega arith) l))

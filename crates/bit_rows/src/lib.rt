@@ -1,5 +1,5 @@
 //! Bit rows: a bottom over rows and prices of the caller's.
-#![tactic(auto)]
+#![tactic(auto, using(bottom::proofs::Asked::asked))]
 
 ghost use Rattle.std.specs.Prelude.{◌≡◌, ◌≤◌, length};
 ghost use Rattle.bottom.specs.Fitting.{PinsThere};

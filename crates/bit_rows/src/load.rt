@@ -8,7 +8,7 @@ use crate::BitRows;
 use crate::pins::check_pins;
 use moduleset::ModuleSet;
 use price::Price;
-use refusal::{Fault, Place};
+use refusal::Fault;
 
 impl<'a, P: Price> BitRows<'a, P> {
     /// Fills the rows with the caller's own, or refuses them and leaves what was there.
@@ -35,12 +35,6 @@ impl<'a, P: Price> BitRows<'a, P> {
 fn check_pin_counts(rows: &[u64]) -> Result<(), Fault>
     ensures { result ≡ checked (few_fault (few rows.now) (length rows.now)) }
 {
-    for net in 0..rows.len() {
-        if ModuleSet::from_word(rows[net]).size() < 2 {
-            return Err(Fault::TooFewPins {
-                at: Place::Net(net),
-            });
-        }
-    }
-    Ok(())
+    let mut nets = rows.iter();
+    bottom::check_few_pins(nets.position(|row| ModuleSet::from(*row).size() < 2))
 }

@@ -8,29 +8,27 @@ use moduleset::ModuleSet;
 use refusal::{Fault, Place};
 
 /// Refuses the first pin, net by net, that names no module.
+#[tactic(auto, using(refusal::proofs::CheckLaws::first_none))]
 pub(crate) fn check_pins(modules: usize, rows: &[u64]) -> Result<(), Fault>
     requires { modules ≤ 64 }
     ensures { result ≡ checked (pins_fault modules (row_pins rows.now) (length rows.now)) }
 {
-    for net in 0..rows.len() {
-        if let Some(fault) = find_fault(modules, net, ModuleSet::from_word(rows[net])) {
-            return Err(fault);
-        }
+    for (net, row) in rows.iter().enumerate() {
+        check_net(modules, net, ModuleSet::from(*row))?;
     }
     Ok(())
 }
 
-/// The first fault of one net's pins: the pins rise, so those that are modules come first, and none repeats.
-fn find_fault(modules: usize, net: usize, pins: ModuleSet) -> Option<Fault>
+/// Refuses the first pin of one net that names no module: the pins rise, so those that are modules come first, and none repeats.
+fn check_net(modules: usize, net: usize, pins: ModuleSet) -> Result<(), Fault>
     requires { modules ≤ 64 }
-    ensures { result ≡ net_fault modules net (members pins.word) }
+    ensures { result ≡ checked (net_fault modules net (members pins.word)) }
 {
     let position = pins.minus(ModuleSet::at_or_past(modules)).size();
     if position < pins.size() {
-        Some(Fault::NoSuchModule {
+        return Err(Fault::NoSuchModule {
             at: Place::Pin { net, position },
-        })
-    } else {
-        None
+        });
     }
+    Ok(())
 }

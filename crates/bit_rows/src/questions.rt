@@ -1,6 +1,8 @@
 //! The empty bit rows, and the questions about bit rows.
-ghost use Rattle.std.specs.Prelude.{◌≡◌};
+ghost use Rattle.std.specs.Prelude.{◌≡◌, ◌<◌, ◌≤◌, length, MatchOption};
 ghost use Rattle.bottom.specs.BottomMeaning.{empty_meaning};
+ghost use Rattle.moduleset.specs.Words.{members};
+ghost use Rattle.bit_rows.specs.Rows.{row_pins};
 ghost use Rattle.bit_rows.specs.Means.{means, means_sound};
 
 use crate::BitRows;
@@ -19,8 +21,18 @@ impl<'a, P: Price> BitRows<'a, P> {
             prices: &[],
         }
     }
+
+    /// The pins of a net.
+    fn pins_of(&self, net: usize) -> Option<ModuleSet>
+        ensures { MatchOption result
+            (length self.now.prices.now ≤ net)
+            (λ pins. (net < length self.now.prices.now) × (members pins.word ≡ row_pins self.now.rows.now net)) }
+    {
+        self.rows.get(net).map(|row| ModuleSet::from(*row))
+    }
 }
 
+// Those about modules and prices are a line each, the same in both bottoms: forwarding to a shared struct takes as many.
 impl<'a, P: Price> Netlist for BitRows<'a, P> {
     type Price = P;
 
@@ -41,42 +53,22 @@ impl<'a, P: Price> Netlist for BitRows<'a, P> {
     }
 
     fn place(&self, home: usize) -> Option<u8> {
-        if home < self.modules {
-            Some(home as u8)
-        } else {
-            None
-        }
+        (home < self.modules).then(|| home as u8)
     }
 
     fn pin_count(&self, net: usize) -> Option<usize> {
-        if net < self.prices.len() {
-            Some(ModuleSet::from_word(self.rows[net]).size())
-        } else {
-            None
-        }
+        Some(self.pins_of(net)?.size())
     }
 
     fn pin(&self, net: usize, k: usize) -> Option<u8> {
-        if net < self.prices.len() {
-            ModuleSet::from_word(self.rows[net]).kth(k)
-        } else {
-            None
-        }
+        self.pins_of(net)?.kth(k)
     }
 
     fn price(&self, net: usize) -> Option<P> {
-        if net < self.prices.len() {
-            Some(self.prices[net])
-        } else {
-            None
-        }
+        self.prices.get(net).copied()
     }
 
     fn is_muted(&self, net: usize) -> Option<bool> {
-        if net < self.prices.len() {
-            Some(false)
-        } else {
-            None
-        }
+        (net < self.prices.len()).then_some(false)
     }
 }

@@ -1,9 +1,10 @@
 -- What the questions about a bottom answer, over plain values.
-use Rattle.std.proofs.Common.{◌≡◌, ℕ, zero, suc, ◌+◌, ◌<◌, ◌≤◌, max, false, List, [], ◌∷◌, map, length, get_or, replicate, Some, None, sym, refl, ap, ◌∙◌, ap₂, add-zero, zero-add, arith}
-use Rattle.std.specs.List.{range_with_len as counting, slice_get}
-use Rattle.std.specs.Option.{option_map}
+use Rattle.std.proofs.Common.{◌≡◌, ℕ, zero, suc, ◌+◌, ◌<◌, ◌≤◌, max, ltb, false, Bor, Option, List, [], ◌∷◌, map, length, get_or, replicate, Some, None, sym, refl, ap, ◌∙◌, ap₂, add-zero, zero-add, arith}
+use Rattle.std.specs.List.{range_with_len as counting, slice_get, HoldsAt}
+use Rattle.std.specs.Option.{option_map, option_copied, is_some, IfSome, MatchOption}
 use Rattle.std.proofs.lemmas.List.FromFn.{length-range_with_len, get_or-range_with_len}
-use Rattle.std.proofs.lemmas.Option.{slice_get-get_or, slice_get_past}
+use Rattle.std.proofs.lemmas.Option.{slice_get-get_or, slice_get_past, slice_get_read}
+use Rattle.std.proofs.lemmas.Bool.{ltb-true, ltb-false}
 use Rattle.price.specs.Kind.{Kind}
 use Rattle.netlist.specs.Nets.{Net, then, pin_count_at, pin_at, price_at}
 use Rattle.netlist.specs.Places.{place, groups, placed}
@@ -19,12 +20,12 @@ groups_from a (suc n) = let e = groups_from (a + 1) n in omega arith
 pub groups_counting : (n : ℕ) → groups (counting 0 n) ≡ n
 groups_counting n = let e = groups_from 0 n in omega arith
 
-pub place_there : (n home : ℕ) → home < n → slice_get (counting 0 n) home ≡ Some home
-place_there n home h =
-    slice_get-get_or (counting 0 n) home 0 (let e = length-range_with_len 0 n in omega arith) ∙ ap Some (get_or-range_with_len 0 n home 0 h ∙ omega arith)
-
-pub place_absent : (n home : ℕ) → n ≤ home → slice_get (counting 0 n) home ≡ None
-place_absent n home h = slice_get_past (counting 0 n) home (let e = length-range_with_len 0 n in omega arith)
+pub place_asked : (n home : ℕ) (r : Option ℕ) → is_some r ≡ ltb home n → IfSome r (λ x. x ≡ home) → r ≡ slice_get (counting 0 n) home
+place_asked n home None e h = sym (slice_get_past (counting 0 n) home (let l = length-range_with_len 0 n in let past = ltb-false home n (sym e) in omega arith))
+place_asked n home (Some x) e h =
+    let l = length-range_with_len 0 n in
+    let there = ltb-true home n (sym e) in
+    sym (slice_get-get_or (counting 0 n) home 0 (omega arith) ∙ ap Some (get_or-range_with_len 0 n home 0 there ∙ zero-add home ∙ sym h))
 
 -- placing by k ↦ k leaves pins below the count
 pub placed_same : (n : ℕ) (pins : List ℕ) → ((i : ℕ) → i < length pins → get_or pins i 0 < n) → map (place (counting 0 n)) pins ≡ pins
@@ -32,16 +33,11 @@ placed_same n [] f = refl
 placed_same n (p ∷ ps) f =
     ap₂ (λ (q : ℕ) qs. q ∷ qs) (get_or-range_with_len 0 n p 0 (f 0 (omega arith)) ∙ zero-add p) (placed_same n ps (λ i h. f (suc i) (omega arith)))
 
--- mutes
-pub unmuted : {X : Type 0} (n : ℕ) (x : X) (k : ℕ) → k < n → slice_get (replicate n x) k ≡ Some x
-unmuted zero x k h = absurd (omega arith)
-unmuted (suc n) x zero h = refl
-unmuted (suc n) x (suc k) h = unmuted n x k (omega arith)
-
-pub unmuted_absent : {X : Type 0} (n : ℕ) (x : X) (k : ℕ) → n ≤ k → slice_get (replicate n x) k ≡ None
-unmuted_absent zero x k h = refl
-unmuted_absent (suc n) x zero h = absurd (omega arith)
-unmuted_absent (suc n) x (suc k) h = unmuted_absent n x k (omega arith)
+-- a list read at an index, and the value copied
+pub read : {X : Type 0} (xs : List X) (i : ℕ) (o : Option (Bor X)) → MatchOption o (length xs ≤ i) (λ x. (i < length xs) × HoldsAt (λ y. x.now ≡ y) xs i)
+    → option_copied o ≡ slice_get xs i
+read xs i None h = sym (slice_get_past xs i h)
+read xs i (Some x) h = sym (slice_get_read xs (length xs) i x.now refl h.0 (h.1 x.now))
 
 -- nets
 net_there : {P : Type 0} (pins : ℕ → List ℕ) (a : ℕ) (xs : List P) (i : ℕ) → i < length xs → (x : P) × (slice_get (nets_from pins a xs) i ≡ Some (record { price = x; pins = pins (a + i) }))
@@ -71,6 +67,11 @@ module _ {P : Type 0} (k : Kind P) (modules : ℕ) (pins : ℕ → List ℕ) (pr
   pub price_asked : (net : ℕ) → price_at (own_nets k (bottom_meaning modules pins prices)) net ≡ slice_get prices net
   price_asked net = ap (λ nets. price_at nets net) own_same ∙ price_from pins 0 prices net
 
+  -- what a read of the prices gives
+  pub price_read : (net : ℕ) (o : Option (Bor P)) → MatchOption o (length prices ≤ net) (λ x. (net < length prices) × HoldsAt (λ y. x.now ≡ y) prices net)
+      → option_copied o ≡ price_at (own_nets k (bottom_meaning modules pins prices)) net
+  price_read net o h = read prices net o h ∙ sym (price_asked net)
+
   at_net : (net : ℕ) → net < length prices → (x : P) × (slice_get (own_nets k (bottom_meaning modules pins prices)) net ≡ Some (record { price = x; pins = pins net }))
   at_net net h =
       let r = net_there pins 0 prices net h in
@@ -90,3 +91,6 @@ module _ {P : Type 0} (k : Kind P) (modules : ℕ) (pins : ℕ → List ℕ) (pr
 
   pub pin_absent : (net position : ℕ) → length prices ≤ net → pin_at (own_nets k (bottom_meaning modules pins prices)) net position ≡ None
   pin_absent net position h = ap (λ o. then o (λ n. slice_get n.pins position)) (no_net net h)
+
+-- what each question about a bottom asks
+pub ruleset asked = (groups_counting, length-range_with_len, length_nets, price_read, read, count_asked, count_absent, pin_asked, pin_absent)

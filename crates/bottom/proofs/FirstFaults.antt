@@ -1,12 +1,13 @@
 -- Laws of the checks of loaded pins.
-use Rattle.std.proofs.Common.{◌≡◌, ℕ, zero, suc, ◌+◌, ◌<◌, ◌≤◌, Bool, true, false, eqb, leb, List, length, get_or, Some, None, Ok, Option, sym, refl, subst, inl, inr, add-one, arith}
+use Rattle.std.proofs.Common.{◌≡◌, ℕ, zero, suc, ◌+◌, ◌<◌, ◌≤◌, Bool, true, false, eqb, leb, List, length, get_or, Some, None, Ok, Err, Option, sym, refl, subst, inl, inr, add-one, arith}
 use Rattle.std.proofs.lemmas.Bool.{cases_lt, or_parts, or_left, or_right, leb-false, ltb-false, eqb-false, le-leb, lt-leb, eq-eqb}
-use Rattle.refusal.specs.declared.Place.TheVariants.{Pin}
+use Rattle.refusal.specs.declared.Place.TheVariants.{Net, Pin}
 use Rattle.refusal.specs.declared.Fault.{Fault}
-use Rattle.refusal.specs.declared.Fault.TheVariants.{NoSuchModule, RepeatedPin}
-use Rattle.bottom.specs.LoadFaults.{some_below, repeats, counts_fault, pin_fault, net_fault, pins_fault, checked}
+use Rattle.refusal.specs.declared.Fault.TheVariants.{TooFewPins, NoSuchModule, RepeatedPin}
+use Rattle.std.specs.Option.{MatchOption, option_map}
+use Rattle.bottom.specs.LoadFaults.{some_below, repeats, counts_fault, few_fault, pin_fault, net_fault, pins_fault, checked}
 use Rattle.bottom.specs.Fitting.{PinsThere, FewPins}
-use Rattle.refusal.proofs.CheckLaws.{or_else_none, fault_if_none, none_at}
+use Rattle.refusal.proofs.CheckLaws.{or_else_none, fault_if_none, fault_if_true, fault_if_false, none_at, first_of_none, first_at}
 use Rattle.bottom.proofs.Distinct.{distinct_few}
 
 pub some_none : (test : ℕ → Bool) → some_below test 0 ≡ false
@@ -41,6 +42,14 @@ not_some test n (suc m) p l =
       | inr h ↦ let s : n ≡ m = omega arith in subst (λ (x : ℕ). test x ≡ false) (sym s) both.1
     ]
 
+-- the first net with too few pins, by a search for it
+pub few_searched : (few : ℕ → Bool) (nets : ℕ) (r : Option ℕ)
+    → MatchOption r ((net : ℕ) → net < nets → few net ≡ false) (λ found. (found < nets) × (few found ≡ true) × ((net : ℕ) → net < found → few net ≡ false))
+    → option_map (λ net. TooFewPins (Net net)) r ≡ few_fault few nets
+few_searched few nets None none = sym (first_of_none _ nets (λ net h. fault_if_false _ _ (none net h)))
+few_searched few nets (Some found) h =
+    sym (first_at _ _ found nets (first_of_none _ found (λ net l. fault_if_false _ _ (h.2 net l))) (fault_if_true _ _ h.1) h.0)
+
 -- what one pin's check finds
 module _ (modules net : ℕ) (pins : List ℕ) (position : ℕ) where
   pub pin_missing : modules ≤ get_or pins position 0 → pin_fault modules net pins position ≡ Some (NoSuchModule (Pin net position))
@@ -58,6 +67,11 @@ module _ (modules net : ℕ) (pins : List ℕ) (position : ℕ) where
 pub accepted : (x : Unit {0}) (found : Option Fault) → Ok x ≡ checked found → found ≡ None
 accepted x None e = refl
 accepted x (Some fault) e = absurd (let z : ◌≡◌ {A = ℕ} 0 1 = cc in omega arith)
+
+-- a check that refuses found what it tells
+pub refused : (fault : Fault) (found : Option Fault) → Err fault ≡ checked found → found ≡ Some fault
+refused fault None e = absurd (let z : ◌≡◌ {A = ℕ} 0 1 = cc in omega arith)
+refused fault (Some found) e = cc
 
 pub counts_accepted : (x : Unit {0}) (modules nets : ℕ) → Ok x ≡ checked (counts_fault modules nets) → (modules ≤ 64) × (nets ≤ 1024)
 counts_accepted x modules nets e =

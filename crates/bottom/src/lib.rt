@@ -2,6 +2,9 @@
 #![tactic(auto)]
 
 ghost use Rattle.std.specs.Prelude.{◌≡◌};
+ghost use Rattle.std.specs.Option.{option_map};
+ghost use Rattle.refusal.specs.declared.Place.TheVariants.{Net};
+ghost use Rattle.refusal.specs.declared.Fault.TheVariants.{TooFewPins};
 ghost use Rattle.bottom.specs.LoadFaults.{counts_fault, checked};
 
 use refusal::{Fault, Place};
@@ -17,4 +20,16 @@ pub fn check_counts(modules: usize, nets: usize) -> Result<(), Fault>
         return Err(Fault::TooManyNets { at: Place::Call });
     }
     Ok(())
+}
+
+/// Refuses the first net with fewer than two pins, where there is one.
+pub fn check_few_pins(first: Option<usize>) -> Result<(), Fault>
+    ensures { result ≡ checked (option_map (λ net. TooFewPins (Net net)) first) }
+{
+    match first {
+        Some(net) => Err(Fault::TooFewPins {
+            at: Place::Net(net),
+        }),
+        None => Ok(()),
+    }
 }

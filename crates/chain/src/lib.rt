@@ -1,5 +1,5 @@
 //! A netlist that is computed by a rule and has no tables: a chain of modules, each wired to the next by one wire.
-#![tactic(auto)]
+#![tactic(auto, using(bottom::proofs::Asked::asked))]
 
 ghost use Rattle.std.specs.Prelude.{◌≤◌};
 

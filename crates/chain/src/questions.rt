@@ -1,6 +1,6 @@
 //! A chain made, and the questions about it.
-ghost use Rattle.std.specs.Prelude.{◌≡◌, ℕ, ◌≤◌, min};
-ghost use Rattle.chain.specs.Chains.{means, means_sound, chain_meaning};
+ghost use Rattle.std.specs.Prelude.{◌≡◌, ◌-◌, ◌<◌, ◌≤◌, MatchOption, min};
+ghost use Rattle.chain.specs.Chains.{means, means_sound, chain_meaning, chain_pins};
 
 use crate::Chain;
 use netlist::Netlist;
@@ -15,6 +15,17 @@ impl Chain {
         Chain {
             modules: modules.min(64),
         }
+    }
+
+    /// The pins of a net: the module of its number and the next.
+    fn pins_of(&self, net: usize) -> Option<[u8; 2]>
+        ensures { MatchOption result
+            (self.now.modules - 1 ≤ net)
+            (λ pins. (net < self.now.modules - 1) × (pins ≡ chain_pins net)) }
+    {
+        let first = u8::try_from(net).ok()?;
+        let next = first.checked_add(1)?;
+        (next < self.modules).then_some([first, next])
     }
 }
 
@@ -38,41 +49,22 @@ impl Netlist for Chain {
     }
 
     fn place(&self, home: usize) -> Option<u8> {
-        if home < self.modules as usize {
-            Some(home as u8)
-        } else {
-            None
-        }
+        (home < self.modules as usize).then(|| home as u8)
     }
 
     fn pin_count(&self, net: usize) -> Option<usize> {
-        if net < self.modules.saturating_sub(1) as usize {
-            Some(2)
-        } else {
-            None
-        }
+        Some(self.pins_of(net)?.len())
     }
 
     fn pin(&self, net: usize, k: usize) -> Option<u8> {
-        if net >= self.modules.saturating_sub(1) as usize {
-            return None;
-        }
-        if k < 2 { Some((net + k) as u8) } else { None }
+        self.pins_of(net)?.get(k).copied()
     }
 
     fn price(&self, net: usize) -> Option<Wires> {
-        if net < self.modules.saturating_sub(1) as usize {
-            Some(Wires { count: 1 })
-        } else {
-            None
-        }
+        (net < self.net_count()).then_some(Wires { count: 1 })
     }
 
     fn is_muted(&self, net: usize) -> Option<bool> {
-        if net < self.modules.saturating_sub(1) as usize {
-            Some(false)
-        } else {
-            None
-        }
+        (net < self.net_count()).then_some(false)
     }
 }

@@ -1,4 +1,4 @@
-//! The tests of all the crates.
+//! The tests of prices, pages and lines.
 #![tactic(auto)]
 
 #[cfg(test)]
@@ -9,5 +9,3 @@ mod packing;
 mod page_tests;
 #[cfg(test)]
 mod price_tests;
-#[cfg(test)]
-mod written_lines_tests;

@@ -1,19 +1,21 @@
 //! The line of a refused page.
-use lines::write_page_refused;
+use fixtures::told;
+use lines::writing::{Line, write_line};
 use refusal::{Fault, Place};
-use std::test::Fail;
 
 #[test]
 fn a_refused_page_has_its_line(rt: HostRuntime) {
     let mut out = [b'.'; 40];
+    let after = Fault::AfterLastNet { bit: 127 };
     assert_eq!(rt;
-        write_page_refused(Fault::AfterLastNet { bit: 127 }, &mut out).ok(),
-        Some(17)
+        write_line(Line::PageRefused { fault: after }, &mut out),
+        Ok(17)
     );
     assert_eq!(rt; &out, b"page no 9 at 127\n.......................");
+    let ends = Fault::PageEnds { bit: 0 };
     assert_eq!(rt;
-        write_page_refused(Fault::PageEnds { bit: 0 }, &mut out).ok(),
-        Some(15)
+        write_line(Line::PageRefused { fault: ends }, &mut out),
+        Ok(15)
     );
     assert_eq!(rt; &out, b"page no 1 at 0\n7\n.......................");
 }
@@ -22,20 +24,17 @@ fn a_refused_page_has_its_line(rt: HostRuntime) {
 fn the_longest_line_fits(rt: HostRuntime) {
     let mut out = [b'.'; 37];
     let fault = Fault::TooShort { table: usize::MAX };
-    assert_eq!(rt; write_page_refused(fault, &mut out).ok(), Some(35));
+    assert_eq!(rt; write_line(Line::PageRefused { fault }, &mut out), Ok(35));
     assert_eq!(rt; &out, b"page no 10 at 18446744073709551615\n..");
 }
 
 #[test]
-fn a_short_buffer_is_refused_and_stays(rt: HostRuntime) -> Result<(), Fail> {
+fn a_short_buffer_is_refused_and_stays(rt: HostRuntime) {
     let mut out = [b'.'; 36];
-    match write_page_refused(Fault::PageEnds { bit: 0 }, &mut out) {
-        Ok(_) => return Err(Fail::new("accepted")),
-        Err(fault) => {
-            assert_eq!(rt; fault.number(), 10);
-            assert_eq!(rt; fault.place(), Place::Table(1));
-        }
-    }
+    let fault = Fault::PageEnds { bit: 0 };
+    assert_eq!(rt;
+        told(write_line(Line::PageRefused { fault }, &mut out)),
+        Some((10, Place::Table(1)))
+    );
     assert_eq!(rt; &out, &[b'.'; 36]);
-    Ok(())
 }

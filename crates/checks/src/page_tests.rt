@@ -1,34 +1,15 @@
 //! Unpacking: every refusal at its bit, and what fills the tables.
 use crate::packing::{Field, Packer};
+use fixtures::small_page::SMALL;
+use fixtures::{number_of, told};
 use page::counts::Counts;
 use page::known::{KnownKind, known_kind};
 use page::unpack::unpack_page;
 use price::Price;
 use price::values::{TimersFirst, Widest, Wires};
-use refusal::{Fault, Place};
+use refusal::Place;
 use std::process::Abort;
 use std::test::Fail;
-
-const SMALL: [u8; 16] = [
-    0x10, 0x60, 0x08, 0x10, 0x00, 0x80, 0x00, 0x00, 0x02, 0x82, 0x04, 0x20, 0x00, 0x00, 0x00, 0x30,
-];
-
-// Compares what a call answered with a refusal's number and place.
-fn refused(
-    rt: &impl Abort,
-    answer: Result<Counts, Fault>,
-    number: u8,
-    place: Place,
-) -> Result<(), Fail> {
-    match answer {
-        Ok(_) => Err(Fail::new("accepted")),
-        Err(fault) => {
-            assert_eq!(rt; fault.number(), number);
-            assert_eq!(rt; fault.place(), place);
-            Ok(())
-        }
-    }
-}
 
 // Unpacks fields in wires, with tables of a few entries that a refusal must leave.
 fn fields_refused(
@@ -40,23 +21,19 @@ fn fields_refused(
     let mut packer = Packer::new(rt.alloc());
     packer.fields(fields)?;
     let page = packer.finish()?;
-    bytes_refused(rt, page.as_slice(), number, Place::Bit(bit))
+    bytes_refused(rt, page.as_slice(), number, Place::Bit(bit));
+    Ok(())
 }
 
-fn bytes_refused(rt: &impl Abort, page: &[u8], number: u8, place: Place) -> Result<(), Fail> {
+fn bytes_refused(rt: &impl Abort, page: &[u8], number: u8, place: Place) {
     let mut starts = [7u32; 4];
     let mut pins = [7u8; 8];
     let mut prices = [Wires { count: 7 }; 4];
-    refused(
-        rt,
-        unpack_page(page, &mut starts, &mut pins, &mut prices),
-        number,
-        place,
-    )?;
+    let answer = unpack_page(page, &mut starts, &mut pins, &mut prices);
+    assert_eq!(rt; told(answer), Some((number, place)));
     assert_eq!(rt; starts, [7; 4]);
     assert_eq!(rt; pins, [7; 8]);
     assert_eq!(rt; prices, [Wires { count: 7 }; 4]);
-    Ok(())
 }
 
 #[test]
@@ -83,28 +60,28 @@ fn the_small_page_unpacks(rt: HostRuntime) -> Result<(), Fail> {
 }
 
 #[test]
-fn the_small_page_spoiled(rt: HostRuntime) -> Result<(), Fail> {
+fn the_small_page_spoiled(rt: HostRuntime) {
     let mut page = SMALL;
     page[15] = 0x31;
-    bytes_refused(&rt, &page, 9, Place::Bit(127))?;
-    bytes_refused(&rt, &SMALL[0..15], 1, Place::Bit(92))
+    bytes_refused(&rt, &page, 9, Place::Bit(127));
+    bytes_refused(&rt, &SMALL[0..15], 1, Place::Bit(92));
 }
 
-// The header of a page: kind, modules, nets.
+// The first field of a page, its kind.
 const WIRES: Field = (1, 4);
 
 #[test]
-fn a_page_that_ends_inside_a_field(rt: HostRuntime) -> Result<(), Fail> {
-    bytes_refused(&rt, &[], 1, Place::Bit(0))?;
-    bytes_refused(&rt, &SMALL[0..1], 1, Place::Bit(4))?;
-    bytes_refused(&rt, &SMALL[0..2], 1, Place::Bit(11))?;
-    bytes_refused(&rt, &SMALL[0..3], 1, Place::Bit(22))?;
-    bytes_refused(&rt, &SMALL[0..4], 1, Place::Bit(29))?;
-    bytes_refused(&rt, &SMALL[0..5], 1, Place::Bit(35))?;
-    bytes_refused(&rt, &SMALL[0..6], 1, Place::Bit(41))?;
-    bytes_refused(&rt, &SMALL[0..9], 1, Place::Bit(41))?;
-    bytes_refused(&rt, &SMALL[0..10], 1, Place::Bit(80))?;
-    bytes_refused(&rt, &SMALL[0..11], 1, Place::Bit(86))
+fn a_page_that_ends_inside_a_field(rt: HostRuntime) {
+    bytes_refused(&rt, &[], 1, Place::Bit(0));
+    bytes_refused(&rt, &SMALL[0..1], 1, Place::Bit(4));
+    bytes_refused(&rt, &SMALL[0..2], 1, Place::Bit(11));
+    bytes_refused(&rt, &SMALL[0..3], 1, Place::Bit(22));
+    bytes_refused(&rt, &SMALL[0..4], 1, Place::Bit(29));
+    bytes_refused(&rt, &SMALL[0..5], 1, Place::Bit(35));
+    bytes_refused(&rt, &SMALL[0..6], 1, Place::Bit(41));
+    bytes_refused(&rt, &SMALL[0..9], 1, Place::Bit(41));
+    bytes_refused(&rt, &SMALL[0..10], 1, Place::Bit(80));
+    bytes_refused(&rt, &SMALL[0..11], 1, Place::Bit(86));
 }
 
 #[test]
@@ -113,12 +90,11 @@ fn another_kind_than_wanted(rt: HostRuntime) -> Result<(), Fail> {
     fields_refused(&rt, &[(2, 4), (3, 7), (0, 11)], 2, 0)?;
     fields_refused(&rt, &[(15, 4)], 2, 0)?;
     let mut prices = [Widest { width: 7 }; 2];
-    refused(
-        &rt,
-        unpack_page(&SMALL, &mut [0; 3], &mut [0; 4], &mut prices),
-        2,
-        Place::Bit(0),
-    )
+    assert_eq!(rt;
+        told(unpack_page(&SMALL, &mut [0; 3], &mut [0; 4], &mut prices)),
+        Some((2, Place::Bit(0)))
+    );
+    Ok(())
 }
 
 #[test]
@@ -215,7 +191,8 @@ fn a_pin_count_of_127(rt: HostRuntime) -> Result<(), Fail> {
         packer.field(k % 64, 6)?;
     }
     packer.field(9, 32)?;
-    bytes_refused(&rt, packer.finish()?.as_slice(), 8, Place::Bit(413))
+    bytes_refused(&rt, packer.finish()?.as_slice(), 8, Place::Bit(413));
+    Ok(())
 }
 
 #[test]
@@ -248,35 +225,26 @@ fn bits_and_bytes_after_the_last_net(rt: HostRuntime) -> Result<(), Fail> {
 }
 
 #[test]
-fn tables_one_entry_short(rt: HostRuntime) -> Result<(), Fail> {
+fn tables_one_entry_short(rt: HostRuntime) {
     let mut two = [Wires { count: 7 }; 2];
     let mut one = [Wires { count: 7 }; 1];
-    refused(
-        &rt,
-        unpack_page(&SMALL, &mut [7; 2], &mut [7; 4], &mut two),
-        10,
-        Place::Table(1),
-    )?;
-    refused(
-        &rt,
-        unpack_page(&SMALL, &mut [7; 3], &mut [7; 3], &mut two),
-        10,
-        Place::Table(2),
-    )?;
-    refused(
-        &rt,
-        unpack_page(&SMALL, &mut [7; 3], &mut [7; 4], &mut one),
-        10,
-        Place::Table(3),
-    )?;
-    refused(
-        &rt,
-        unpack_page(&SMALL, &mut [7; 2], &mut [7; 3], &mut one),
-        10,
-        Place::Table(1),
-    )?;
+    assert_eq!(rt;
+        told(unpack_page(&SMALL, &mut [7; 2], &mut [7; 4], &mut two)),
+        Some((10, Place::Table(1)))
+    );
+    assert_eq!(rt;
+        told(unpack_page(&SMALL, &mut [7; 3], &mut [7; 3], &mut two)),
+        Some((10, Place::Table(2)))
+    );
+    assert_eq!(rt;
+        told(unpack_page(&SMALL, &mut [7; 3], &mut [7; 4], &mut one)),
+        Some((10, Place::Table(3)))
+    );
+    assert_eq!(rt;
+        told(unpack_page(&SMALL, &mut [7; 2], &mut [7; 3], &mut one)),
+        Some((10, Place::Table(1)))
+    );
     assert!(rt; unpack_page(&SMALL, &mut [7; 3], &mut [7; 4], &mut two).is_ok());
-    Ok(())
 }
 
 #[test]
@@ -339,18 +307,14 @@ fn other_kinds_unpack(rt: HostRuntime) -> Result<(), Fail> {
 }
 
 #[test]
-fn the_kind_that_a_page_names(rt: HostRuntime) -> Result<(), Fail> {
-    assert_eq!(rt; known_kind(&[0x10]).ok(), Some(KnownKind::Wires));
-    assert_eq!(rt;
-        known_kind(&[0x2f, 0xff]).ok(),
-        Some(KnownKind::TimersFirst)
-    );
-    assert_eq!(rt; known_kind(&[0x3f]).ok(), Some(KnownKind::Widest));
+fn the_kind_that_a_page_names(rt: HostRuntime) {
+    assert_eq!(rt; known_kind(&[0x10]), Ok(KnownKind::Wires));
+    assert_eq!(rt; known_kind(&[0x2f, 0xff]), Ok(KnownKind::TimersFirst));
+    assert_eq!(rt; known_kind(&[0x3f]), Ok(KnownKind::Widest));
     for byte in [0x00, 0x40, 0xf0] {
-        assert_eq!(rt; known_kind(&[byte]).err().ok_or("accepted")?.number(), 2);
+        assert_eq!(rt; number_of(known_kind(&[byte])), Some(2));
     }
-    assert_eq!(rt; known_kind(&[]).err().ok_or("accepted")?.number(), 1);
-    Ok(())
+    assert_eq!(rt; number_of(known_kind(&[])), Some(1));
 }
 
 // 64 modules and 1,024 nets of 64 pins each, at prices that rise by three; the pins of net i begin with module i modulo 64.
@@ -371,12 +335,9 @@ fn longest_page(rt: &HostRuntime) -> Result<Vec<u8>, Fail> {
 fn the_longest_page_unpacks(rt: HostRuntime) -> Result<(), Fail> {
     let mut page = longest_page(&rt)?;
     assert_eq!(rt; page.len(), 54147);
-    let mut starts = Vec::new(rt.alloc());
-    starts.resize(1025, 7u32)?;
-    let mut pins = Vec::new(rt.alloc());
-    pins.resize(65536, 99u8)?;
-    let mut prices = Vec::new(rt.alloc());
-    prices.resize(1024, Wires { count: 1 })?;
+    let mut starts = vec![in rt.alloc(); 7u32; 1025]?;
+    let mut pins = vec![in rt.alloc(); 99u8; 65536]?;
+    let mut prices = vec![in rt.alloc(); Wires { count: 1 }; 1024]?;
     let counts = unpack_page(
         page.as_slice(),
         starts.as_mut_slice(),
@@ -401,5 +362,6 @@ fn the_longest_page_unpacks(rt: HostRuntime) -> Result<(), Fail> {
         assert_eq!(rt; price.count, (i as u64).wrapping_mul(3));
     }
     page.push(0)?;
-    bytes_refused(&rt, page.as_slice(), 9, Place::Bit(433176))
+    bytes_refused(&rt, page.as_slice(), 9, Place::Bit(433176));
+    Ok(())
 }

@@ -7,7 +7,7 @@ use Rattle.price.specs.Kind.{Kind, Laws}
 use Rattle.netlist.specs.Nets.{Net, OnPins}
 use Rattle.netlist.specs.Places.{place, groups, Numbered, placed}
 use Rattle.netlist.specs.Meaning.{modules, zero_muted, own_nets}
-use Rattle.netlist.specs.Changes.{united_place_lem, united}
+use Rattle.netlist.specs.Changes.{united_place, united}
 use Rattle.netlist.proofs.Numbering.{place_below_groups, place_map}
 use Rattle.cut.specs.Cuts.{split_price, alone}
 use Rattle.cut.specs.Lawful.{Split}
@@ -25,11 +25,11 @@ pub record Over (places row over : List ℕ) : Type 0 where
 
 united_over : (a b : ℕ) (places row over : List ℕ) → Over places row over → Over places (united a b row) (united a b over)
 united_over a b places row over o = record {
-  as_long = length-map row (united_place_lem a b) ∙ o.as_long;
+  as_long = length-map row (united_place a b) ∙ o.as_long;
   same_group = λ i h.
-      place_map (united_place_lem a b) row i (omega (arith, o.as_long))
-      ∙ (ap (united_place_lem a b) (o.same_group i h) ∙ sym (place_map (united_place_lem a b) over (place places i) (o.inside i h)));
-  inside = λ i h. omega (arith, o.inside i h, length-map over (united_place_lem a b));
+      place_map (united_place a b) row i (omega (arith, o.as_long))
+      ∙ (ap (united_place a b) (o.same_group i h) ∙ sym (place_map (united_place a b) over (place places i) (o.inside i h)));
+  inside = λ i h. omega (arith, o.inside i h, length-map over (united_place a b));
 }
 
 placed_over : {P : Type 0} (places row over : List ℕ) → Over places row over → (nets : List (Net P)) → OnPins (AllByRecursion (λ pin. pin < length places)) nets

@@ -1,3 +1,4 @@
+pub mod Nth
 pub mod OwnNets
 pub mod PinSets
 pub mod SetLoops

@@ -21,10 +21,6 @@ module _ {P : Type 0} where
   pub modules_few : (m : Meaning P) → Sound m → modules m ≤ 64
   modules_few m s = omega (arith, modules_homes m s, s.few_homes)
 
-  placed_length : (row : List ℕ) (nets : List (Net P)) → length (placed row nets) ≡ length nets
-  placed_length row [] = refl
-  placed_length row (net ∷ nets) = ap suc (placed_length row nets)
-
   placed_few_pins : (row : List ℕ) (nets : List (Net P)) → OnPins (λ pins. length pins ≤ 64) nets → OnPins (λ pins. length pins ≤ 64) (placed row nets)
   placed_few_pins row [] o = tt
   placed_few_pins row (net ∷ nets) o = (omega (arith, length-map net.pins (place row), o.0), placed_few_pins row nets o.1)
@@ -64,7 +60,7 @@ module _ {P : Type 0} (k : Kind P) where
 
   pub own_length : (m : Meaning P) → length (own_nets k m) ≡ length m.nets
   unfolding own_nets
-  own_length m = placed_length m.places (zero_muted k m.nets m.muted) ∙ zero_muted_length m.nets m.muted
+  own_length m = length-map (zero_muted k m.nets m.muted) _ ∙ zero_muted_length m.nets m.muted
 
   pub own_few_pins : (m : Meaning P) → Sound m → OnPins (λ pins. length pins ≤ 64) (own_nets k m)
   unfolding own_nets
@@ -76,7 +72,7 @@ module _ {P : Type 0} (k : Kind P) where
 
   pub grouped_length : (m : Meaning P) (row : List ℕ) → length (grouped k m row) ≡ length m.nets
   unfolding grouped
-  grouped_length m row = placed_length row (own_nets k m) ∙ own_length m
+  grouped_length m row = length-map (own_nets k m) _ ∙ own_length m
 
   pub grouped_price_at : (m : Meaning P) (row : List ℕ) (i : ℕ) → price_at (grouped k m row) i ≡ price_at (own_nets k m) i
   unfolding grouped

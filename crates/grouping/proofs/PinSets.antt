@@ -1,7 +1,8 @@
 -- A net's pins as a set, and the module at which the net pulls.
-use Rattle.std.proofs.Common.{◌≡◌, ℕ, zero, suc, ◌+◌, ◌<◌, ◌≤◌, Bool, true, false, not, ◌&&◌, ◌||◌, eqb, List, [], ◌∷◌, ◌++◌, map, length, get_or, take, set, IfSome, Some, None, Option, sym, refl, ap, ◌∙◌, subst, ⊎_elim, add-one, arith}
+use Rattle.std.proofs.Common.{◌≡◌, ℕ, zero, suc, ◌+◌, ◌<◌, ◌≤◌, true, false, not, ◌&&◌, ◌||◌, eqb, List, [], ◌∷◌, ◌++◌, map, length, get_or, take, set, IfSome, Some, None, Option, sym, refl, ap, ◌∙◌, subst, ⊎_elim, arith}
 use Rattle.std.specs.List.{slice_get, AllByRecursion}
-use Rattle.std.proofs.lemmas.List.{take_all, get_or-set_same, get_or-set_other}
+use Rattle.std.proofs.lemmas.List.{take_all, get_or-set_same, get_or-set_other, map-set, map-append, length-map}
+use Rattle.std.proofs.Math.Bool.{or-false, or_assoc}
 use Rattle.std.proofs.lemmas.Bool.{both_ways, not-true, eqb-true, eq-eqb, cases_Bool, cases_lt, and_parts, and_from, or_cases, or_left, or_right}
 use Rattle.moduleset.specs.Words.{has as is_in, members, lone}
 use Rattle.moduleset.proofs.Sets.{has_past}
@@ -13,6 +14,7 @@ use Rattle.netlist.specs.Meaning.{Meaning, own_nets}
 use Rattle.cut.specs.Cuts.{has, pulls}
 use Rattle.cut.proofs.Members.{Member, has_head, has_tail, any_member, member_any, every_member, members_every, all_member, member_of_map, same_tests, pulls_parts, pulls_from}
 use Rattle.grouping.specs.Masks.{grouped, pins_of, SetOf, MasksOf, PinGroups, names}
+use Rattle.grouping.proofs.Nth.{nth_past, nth_next}
 use Rattle.grouping.proofs.OwnNets.{own_length}
 
 -- a set that has one module alone
@@ -61,13 +63,10 @@ module _ (mask taken : ℕ) (pins : List ℕ) (s : SetOf mask pins) where
     pub only_pulls : (answer : Option ℕ) → answer ≡ lone (members rest) → (v : ℕ) → is_in taken v ≡ false → names answer v ≡ pulls v (is_in taken) pins
     only_pulls None e v o =
         ⊎_elim
-        (λ y. absurd (differ (e ∙ one_member rest v (small y) (only_there v o y))))
+        (λ y. absurd (let differ = e ∙ one_member rest v (small y) (only_there v o y) in cc))
         (λ y. sym y)
         (cases_Bool (pulls v (is_in taken) pins))
       where
-        differ : ◌≡◌ {A = Option ℕ} None (Some v) → ⊥
-        differ z = let q : ◌≡◌ {A = ℕ} 0 1 = cc in omega arith
-
         small : pulls v (is_in taken) pins ≡ true → v < 64
         small y =
             ⊎_elim (λ h. h)
@@ -89,35 +88,13 @@ only_waits mask taken rest r (Some v) e =
     )
 
 nth_member : (xs : List ℕ) (k p : ℕ) → Some p ≡ slice_get xs k → has xs p ≡ true
-nth_member [] k p e = absurd (let z : ◌≡◌ {A = ℕ} 0 1 = cc in omega arith)
+nth_member [] k p e = absurd cc
 nth_member (x ∷ xs) zero p e = let q : x ≡ p = cc in subst (λ (y : ℕ). has (x ∷ xs) y ≡ true) q (has_head x xs)
 nth_member (x ∷ xs) (suc k) p e = has_tail x xs p (nth_member xs k p e)
 
-nth_next : (xs : List ℕ) (k p : ℕ) → Some p ≡ slice_get xs k → take (suc k) xs ≡ take k xs ++ p ∷ []
-nth_next [] k p e = absurd (let z : ◌≡◌ {A = ℕ} 0 1 = cc in omega arith)
-nth_next (x ∷ xs) zero p e = let q : x ≡ p = cc in ap (λ (y : ℕ). y ∷ []) q
-nth_next (x ∷ xs) (suc k) p e = ap (λ ys. x ∷ ys) (nth_next xs k p e)
-
-nth_past : (xs : List ℕ) (k : ℕ) → None ≡ slice_get xs k → length xs ≤ k
-nth_past [] k e = omega arith
-nth_past (x ∷ xs) zero e = absurd (let z : ◌≡◌ {A = ℕ} 0 1 = cc in omega arith)
-nth_past (x ∷ xs) (suc k) e = omega (arith, nth_past xs k e)
-
-map_next : (f : ℕ → ℕ) (xs : List ℕ) (p : ℕ) → map f (xs ++ p ∷ []) ≡ map f xs ++ f p ∷ []
-map_next f [] p = refl
-map_next f (x ∷ xs) p = ap (λ ys. f x ∷ ys) (map_next f xs p)
-
 pub has_next : (xs : List ℕ) (v p : ℕ) → has (xs ++ v ∷ []) p ≡ (has xs p || eqb p v)
-has_next [] v p = alone (eqb p v)
-  where
-    alone : (b : Bool) → (b || false) ≡ b
-    alone true = refl
-    alone false = refl
-has_next (x ∷ xs) v p = ap (λ b. eqb p x || b) (has_next xs v p) ∙ assoc (eqb p x) (has xs p) (eqb p v)
-  where
-    assoc : (a b c : Bool) → (a || (b || c)) ≡ ((a || b) || c)
-    assoc true b c = refl
-    assoc false b c = refl
+has_next [] v p = or-false (eqb p v)
+has_next (x ∷ xs) v p = ap (λ b. eqb p x || b) (has_next xs v p) ∙ sym (or_assoc (eqb p x) (has xs p) (eqb p v))
 
 module _ {P : Type 0} (nets : List (Net P)) where
   pin_nth : (xs : List (Net P)) (i k : ℕ) → pin_at xs i k ≡ slice_get (pins_of xs i) k
@@ -143,8 +120,7 @@ module _ {P : Type 0} (nets : List (Net P)) where
   pins_more row i k p mask mask' e f g v h =
       f v h ∙ ap (λ b. b || eqb v (place row p)) (g v h)
       ∙ sym (has_next (map (place row) (take k (pins_of nets i))) (place row p) v)
-      ∙ ap (λ xs. has xs v) (sym (map_next (place row) (take k (pins_of nets i)) p)
-      ∙ ap (map (place row)) (sym (nth_next (pins_of nets i) k p (e ∙ pin_nth nets i k)) ∙ ap (λ (x : ℕ). take x (pins_of nets i)) (sym (add-one k))))
+      ∙ ap (λ xs. has xs v) (sym (map-append (place row) (take k (pins_of nets i)) (p ∷ [])) ∙ ap (map (place row)) (sym (nth_next (pins_of nets i) k p (e ∙ pin_nth nets i k))))
 
   all_pins : (row : List ℕ) (i k mask : ℕ) → length (pins_of nets i) ≤ k → FirstPins row i k mask → PinGroups nets row i mask
   all_pins row i k mask h g v b = g v b ∙ ap (λ xs. has (map (place row) xs) v) (take_all k (pins_of nets i) h)
@@ -167,7 +143,7 @@ module _ {P : Type 0} (nets : List (Net P)) where
       too_great b r = omega (arith, small r.0, r.2)
 
 placed_nth : {P : Type 0} (row : List ℕ) (nets : List (Net P)) (i : ℕ) (net : Net P) → slice_get (placed row nets) i ≡ Some net → (i < length nets) × (net.pins ≡ map (place row) (pins_of nets i))
-placed_nth row [] i net e = absurd (let z : ◌≡◌ {A = ℕ} 0 1 = cc in omega arith)
+placed_nth row [] i net e = absurd cc
 placed_nth {P} row (x ∷ nets) zero net e = (omega arith, pins_same e)
   where
     pins_same : Some (record { price = x.price; pins = map (place row) x.pins }) ≡ Some net → net.pins ≡ map (place row) x.pins
@@ -178,7 +154,7 @@ placed_nth row (x ∷ nets) (suc i) net e = let h = placed_nth row nets i net e 
 abbrev pub FirstMasks : {P : Type 0} → List (Net P) → List ℕ → ℕ → List ℕ → Type 0
 FirstMasks nets row n words = (i : ℕ) → i < n → PinGroups nets row i (get_or words i 0)
 
-pub masks_more : {P : Type 0} (nets : List (Net P)) (row words : List ℕ) (n word : ℕ) → n < length words → PinGroups nets row n word → FirstMasks nets row n words
+masks_more : {P : Type 0} (nets : List (Net P)) (row words : List ℕ) (n word : ℕ) → n < length words → PinGroups nets row n word → FirstMasks nets row n words
     → FirstMasks nets row (n + 1) (set words n word)
 masks_more nets row words n word h f g i l v b =
     ⊎_elim (λ q. ap (λ (x : ℕ). is_in x v) (get_or-set_other words n i word 0 (λ e. omega arith)) ∙ g i q v b)
@@ -186,9 +162,15 @@ masks_more nets row words n word h f g i l v b =
     subst (λ (x : ℕ). is_in (get_or (set words n word) x 0) v ≡ has (map (place row) (pins_of nets x)) v) e (ap (λ (x : ℕ). is_in x v) (get_or-set_same words n word 0 h) ∙ f v b)))
     (cases_lt i n)
 
+-- of elements that each have a word
+pub masks_set : {P X : Type 0} (word : X → ℕ) (nets : List (Net P)) (row : List ℕ) (masks : List X) (n : ℕ) (mask : X) → n < length masks → PinGroups nets row n (word mask)
+    → FirstMasks nets row n (map word masks) → FirstMasks nets row (n + 1) (map word (set masks n mask))
+masks_set word nets row masks n mask h f g =
+    subst (FirstMasks nets row (n + 1)) (sym (map-set word masks n mask)) (masks_more nets row (map word masks) n (word mask) (omega (arith, h, length-map masks word)) f g)
+
 pub masks_all : {P : Type 0} (k : Kind P) (m : Meaning P) (row words : List ℕ) → ((v : ℕ) → place row v < 64) → FirstMasks (own_nets k m) row (length m.nets) words
     → MasksOf words (grouped k m row)
-unfolding MasksOf grouped
+unfolding grouped
 masks_all k m row words small g i net e v =
     let h : (i < length (own_nets k m)) × (net.pins ≡ map (place row) (pins_of (own_nets k m) i)) = placed_nth row (own_nets k m) i net e in
     small_groups (own_nets k m) row i (get_or words i 0) small (g i (omega (arith, h.0, own_length k m))) v ∙ ap (λ xs. has xs v) (sym h.1)

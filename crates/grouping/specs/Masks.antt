@@ -27,7 +27,7 @@ abbrev pub SetOf : ℕ → List ℕ → Type 0
 SetOf set pins = (v : ℕ) → is_in set v ≡ has pins v
 
 -- each net's pins as a set, at the net's number
-unfoldable pub MasksOf : {P : Type 0} → List ℕ → List (Net P) → Type 0
+abbrev pub MasksOf : {P : Type 0} → List ℕ → List (Net P) → Type 0
 MasksOf {P} words nets = (i : ℕ) (net : Net P) → slice_get nets i ≡ Some net → SetOf (slice_index words i) net.pins
 
 -- of the groups below 64, the set has those of the pins of net i

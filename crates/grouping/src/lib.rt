@@ -1,5 +1,5 @@
-//! Rows of groups, and nets as sets of groups.
+//! The modules of a group, and nets as sets of groups.
 #![tactic(auto)]
 
+pub mod groups;
 pub mod masks;
-pub mod rows;

@@ -1,5 +1,5 @@
 //! Nets as sets of modules, and the module at which a net pulls.
-ghost use Rattle.std.specs.Prelude.{◌≡◌, ℕ, ◌<◌, false, List, length, IfSome, slice_index};
+ghost use Rattle.std.specs.Prelude.{◌≡◌, ℕ, ◌<◌, false, List, length, map, IfSome, slice_index};
 ghost use Rattle.moduleset.specs.Words.{has as is_in};
 ghost use Rattle.netlist.specs.Meaning.{own_nets};
 ghost use Rattle.cut.specs.Cuts.{pulls};
@@ -9,23 +9,15 @@ use moduleset::ModuleSet;
 use netlist::Netlist;
 use price::Price;
 
-/// The groups of a round, and of each net the groups of its pins.
-#[derive(Drop)]
-pub struct Masks {
-    pub row: [u8; 64],
-    pub words: [u64; 1024],
-}
-
-/// The masks of all nets, so that no step asks for their pins again.
-pub fn gather<N: Netlist>(netlist: &N, row: [u8; 64]) -> Masks
-    ensures same { result.row ≡ row }
-    ensures words { (i : ℕ) → i < length (N.meaning netlist.now).nets → PinGroups (own_nets N.Price.Price.kind (N.meaning netlist.now)) row i (slice_index result.words i) }
+/// Of each net the groups of its pins, so that no step asks for the pins again.
+pub fn gather<N: Netlist>(netlist: &N, row: [u8; 64]) -> [ModuleSet; 1024]
+    ensures { (i : ℕ) → i < length (N.meaning netlist.now).nets → PinGroups (own_nets N.Price.Price.kind (N.meaning netlist.now)) row i (slice_index (map (λ mask. mask.word) result) i) }
 {
-    let mut words = [0u64; 1024];
-    for i in 0..netlist.net_count() {
-        words[i] = net_mask(netlist, i, row).word;
+    let mut masks = [ModuleSet::empty(); 1024];
+    for (i, mask) in masks[..netlist.net_count()].iter_mut().enumerate() {
+        *mask = net_mask(netlist, i, row);
     }
-    Masks { row, words }
+    masks
 }
 
 /// The groups of a net's pins.
@@ -33,6 +25,7 @@ fn net_mask<N: Netlist>(netlist: &N, net: usize, row: [u8; 64]) -> ModuleSet
     ensures { PinGroups (own_nets N.Price.Price.kind (N.meaning netlist.now)) row net result.word }
 {
     let mut mask = ModuleSet::empty();
+    // A loop over `(0..64).map_while(..)`: tried, and the check stops at the type of its iterator.
     for k in 0..64 {
         let Some(pin) = netlist.pin(net, k) else {
             break;

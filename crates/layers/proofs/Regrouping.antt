@@ -1,11 +1,22 @@
 -- Rows that number groups in turn: how many groups they leave, and their numbering read either way.
-use Rattle.std.proofs.Common.{◌≡◌, ℕ, zero, suc, ◌+◌, ◌<◌, ◌≤◌, max, List, [], ◌∷◌, length, take, ap, arith}
+use Rattle.std.proofs.Common.{◌≡◌, ℕ, zero, suc, ◌+◌, ◌<◌, ◌≤◌, max, List, [], ◌∷◌, map, length, take, refl, ap, ◌∙◌, arith}
+use Rattle.std.specs.List.{fold, reduce}
+use Rattle.std.specs.Option.{unwrap_or}
 use Rattle.std.specs.List.{AllByRecursion}
 use Rattle.netlist.specs.Places.{place, groups, Numbered}
 use Rattle.netlist.specs.Meaning.{Meaning, Sound, modules}
 use Rattle.layers.specs.declared.strap.StrapLayer.{StrapLayer}
 use Rattle.layers.specs.Rows.{regrouped, groups_in_turn, places_few}
 use Rattle.layers.specs.Layered.{strap_meaning}
+
+-- the greatest of the counts that end with each place of a row is how many groups there are
+greatest_from : (row : List ℕ) (k : ℕ) → fold max k (map (λ group. group + 1) row) ≡ max k (groups row)
+greatest_from [] k = omega arith
+greatest_from (p ∷ ps) k = greatest_from ps (max k (p + 1)) ∙ omega arith
+
+pub greatest_counted : (row : List ℕ) → unwrap_or (reduce max (map (λ group. group + 1) row)) 0 ≡ groups row
+greatest_counted [] = refl
+greatest_counted (p ∷ ps) = greatest_from ps (p + 1) ∙ omega arith
 
 -- how many groups there are once the places are regrouped
 pub regrouped_groups : (row : List ℕ) (places : List ℕ) (t : ℕ) → AllByRecursion (λ p. p < length row) places → Numbered t places

@@ -6,7 +6,7 @@ use Rattle.std.proofs.lemmas.Bool.{ne_eqb, cond-false}
 use Rattle.std.proofs.lemmas.Bool.Decides.{nat_tests}
 use Rattle.netlist.specs.Places.{place, groups, Numbered}
 use Rattle.netlist.specs.Meaning.{Meaning, Sound, homes}
-use Rattle.netlist.specs.Changes.{united_place_lem, united, strapped_row, strapped}
+use Rattle.netlist.specs.Changes.{united_place, united, strapped_row, strapped}
 use Rattle.netlist.specs.Uniting.{United}
 use Rattle.netlist.proofs.Numbering.{place_map, place_below_groups, uniting}
 use Rattle.layers.specs.declared.strap.StrapLayer.{StrapLayer}
@@ -36,7 +36,7 @@ united_in_turn row v w turn hv hw apart i h =
 regrouped_united : (row : List ℕ) (v w : ℕ) (places : List ℕ) → AllByRecursion (λ p. p < length row) places
     → regrouped (united v w row) places ≡ united v w (regrouped row places)
 regrouped_united row v w [] inside = refl
-regrouped_united row v w (p ∷ ps) inside = ap₂ ◌∷◌ (place_map (united_place_lem v w) row p inside.0) (regrouped_united row v w ps inside.1)
+regrouped_united row v w (p ∷ ps) inside = ap₂ ◌∷◌ (place_map (united_place v w) row p inside.0) (regrouped_united row v w ps inside.1)
 
 module _ {P : Type 0} (a b : ℕ) (m : Meaning P) (free : strap_fault a b m ≡ None) where
   pub strapped_first : a < homes m
@@ -74,7 +74,7 @@ module _ {P N : Type 0} (below : N → Meaning P) (sound : (n : N) → Sound (be
     pub united_row_in_turn : (row : List ℕ) → row ≡ united v w old.row → (length row ≡ 64) × InTurn row
     united_row_in_turn row row_united =
         let m = strap_meaning below old in (
-          ap length row_united ∙ length-map old.row (united_place_lem v w) ∙ old.long,
+          ap length row_united ∙ length-map old.row (united_place v w) ∙ old.long,
           subst InTurn (sym row_united) (united_in_turn old.row v w old.numbered
               (subst (λ p. p < groups old.row) (sym ends.1) (place_is_group a (strapped_first a b m ends.0)))
               (subst (λ p. p < groups old.row) (sym ends.2) (place_is_group b (strapped_second a b m ends.0)))

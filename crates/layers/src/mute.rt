@@ -5,7 +5,7 @@ pub mod changes;
 pub mod questions;
 
 /// A netlist with more of its nets muted; what lies below stays as it is.
-/// `row` marks the nets that this layer mutes.
+/// `row` marks the nets that this layer mutes, in fixed memory: a layer uses no heap.
 #[derive(Drop)]
 pub struct MuteLayer<N> {
     pub below: N,

@@ -6,7 +6,7 @@ pub mod changes;
 pub mod questions;
 
 /// A netlist with groups of its home modules united; what lies below stays as it is.
-/// `row` has the group of each module below, numbered in turn.
+/// `row` has the group of each module below, numbered in turn, in fixed memory: a layer uses no heap.
 #[derive(Drop)]
 pub struct StrapLayer<N> {
     below: N,

@@ -1,1 +1,1 @@
-mod Puts
+mod HexText

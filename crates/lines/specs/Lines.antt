@@ -1,15 +1,10 @@
 -- The lines that the program writes into a caller's buffer.
-use Rattle.std.specs.Prelude.{◌≡◌, ℕ, zero, suc, ◌+◌, ◌/◌, ◌%◌, ◌<◌, ◌≤◌, cond, List, [], ◌∷◌, ◌++◌, length, take, drop, Ok, Err, codes, decimal, Result, nat_lt}
+use Rattle.std.specs.Prelude.{◌≡◌, ℕ, zero, suc, ◌+◌, ◌/◌, ◌%◌, ◌<◌, ◌≤◌, cond, List, [], ◌∷◌, ◌++◌, length, drop, Ok, Err, codes, decimal, Result, nat_lt}
 use Rattle.refusal.specs.declared.Fault.{Fault}
 use Rattle.refusal.specs.declared.Fault.TheVariants.{TooShort}
 use Rattle.refusal.specs.Faults.{number, place, place_number}
 use Rattle.lines.specs.declared.writing.Line.{Line}
 use Rattle.lines.specs.declared.writing.Line.TheVariants.{Accepted, Found, Refused, PageRefused, ScriptTooLong}
-
--- `after` is `before` with the bytes at position `at`, and `next` is the position after them.
-pub record Put (at : ℕ) (bytes before after : List ℕ) (next : ℕ) : Type 0 where
-  pub next_is : next ≡ at + length bytes
-  pub after_is : after ≡ take at before ++ bytes ++ drop next before
 
 -- every line ends with byte 0x0A
 abbrev pub newline : List ℕ

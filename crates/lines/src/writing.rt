@@ -1,8 +1,9 @@
 //! All the lines of the program's output, and one call that writes any of them.
-ghost use Rattle.std.specs.Prelude.{◌≤◌, length};
-ghost use Rattle.lines.specs.Lines.{Put, Written, found_line, line_bytes, refused_line};
+ghost use Rattle.std.specs.Prelude.{◌≡◌, ◌≤◌, ◌++◌, length};
+ghost use Rattle.lines.specs.Lines.{Written, line_bytes, newline, found_line, page_line, refused_line};
 
-use crate::{LINE_ROOM, put_decimal, put_hex, put_text, write_page_refused};
+use crate::LINE_ROOM;
+use crate::bytes::{Body, LineBytes, put_decimal, put_hex, put_text};
 use refusal::Fault;
 
 /// A line of the program's output.
@@ -20,6 +21,43 @@ pub enum Line {
     ScriptTooLong,
 }
 
+/// The line of a refused call.
+impl From<Fault> for Line {
+    ghost use Rattle.lines.specs.declared.writing.Line.TheVariants.{Refused};
+
+    ghost from_gives = { λ fault line. line ≡ Refused fault };
+
+    fn from(fault: Fault) -> Line {
+        Line::Refused { fault }
+    }
+}
+
+impl Line {
+    // `Display` and `write!` into a string of fixed capacity: tried, and that this never fails stayed open.
+    /// The bytes of the line, byte 0x0A at its end.
+    fn bytes(self) -> LineBytes
+        ensures { result.items ≡ line_bytes self }
+    {
+        let mut line = LineBytes::new();
+        put_text(&mut line, self.body().as_slice());
+        put_text(&mut line, b"\n");
+        line
+    }
+
+    /// The bytes of the line before its byte 0x0A.
+    fn body(self) -> Body
+        ensures { result.items ++ newline ≡ line_bytes self }
+    {
+        match self {
+            Line::Accepted => text(b"ok"),
+            Line::Found { sides, word } => found(sides, word),
+            Line::Refused { fault } => refused(fault),
+            Line::PageRefused { fault } => page_refused(fault),
+            Line::ScriptTooLong => text(b"script no 10"),
+        }
+    }
+}
+
 /// Writes a line, byte 0x0A at its end, and answers how many bytes that took; later bytes stay.
 /// Refused: a buffer of fewer than 37 bytes (10, table 1), which stays as it was.
 pub fn write_line(line: Line, out: &mut [u8]) -> Result<usize, Fault>
@@ -28,34 +66,54 @@ pub fn write_line(line: Line, out: &mut [u8]) -> Result<usize, Fault>
     if out.len() < LINE_ROOM {
         return Err(Fault::TooShort { table: 1 });
     }
-    match line {
-        Line::Accepted => Ok(put_text(out, 0, b"ok\n")),
-        Line::Found { sides, word } => Ok(put_found(out, sides, word)),
-        Line::Refused { fault } => Ok(put_refused(out, fault)),
-        Line::PageRefused { fault } => write_page_refused(fault, out),
-        Line::ScriptTooLong => Ok(put_text(out, 0, b"script no 10\n")),
-    }
+    let bytes = line.bytes();
+    let count = bytes.len();
+    out[..count].copy_from_slice(bytes.as_slice());
+    Ok(count)
 }
 
-/// Puts the line of a split at the front.
-fn put_found(out: &mut [u8], sides: u64, word: u64) -> usize
-    requires { 37 ≤ length out.old }
-    ensures { Put 0 (found_line sides word) out.old out.new result }
+/// A text alone.
+fn text(text: &[u8]) -> Body
+    requires { length text.now ≤ 36 }
+    ensures { result.items ≡ text.now }
 {
-    let mut at = put_text(out, 0, b"ok ");
-    at = put_hex(out, at, sides, 16);
-    at = put_text(out, at, b" ");
-    at = put_hex(out, at, word, 16);
-    put_text(out, at, b"\n")
+    let mut line = Body::new();
+    put_text(&mut line, text);
+    line
 }
 
-/// Puts the line of a refused call at the front.
-fn put_refused(out: &mut [u8], fault: Fault) -> usize
-    requires { 37 ≤ length out.old }
-    ensures { Put 0 (refused_line fault) out.old out.new result }
+/// A split that was found.
+fn found(sides: u64, word: u64) -> Body
+    ensures { result.items ++ newline ≡ found_line sides word }
 {
-    let number = usize::from(fault.number());
-    let mut at = put_text(out, 0, b"no ");
-    at = put_decimal(out, at, number);
-    put_text(out, at, b"\n")
+    let mut line = Body::new();
+    put_text(&mut line, b"ok ");
+    put_hex(&mut line, sides);
+    put_text(&mut line, b" ");
+    put_hex(&mut line, word);
+    line
+}
+
+/// A refused call.
+fn refused(fault: Fault) -> Body
+    ensures { result.items ++ newline ≡ refused_line fault }
+{
+    let mut line = Body::new();
+    put_text(&mut line, b"no ");
+    put_decimal(&mut line, fault.number());
+    line
+}
+
+/// A refused page.
+fn page_refused(fault: Fault) -> Body
+    ensures { result.items ++ newline ≡ page_line fault }
+{
+    let number = fault.number();
+    let bit = fault.place().number();
+    let mut line = Body::new();
+    put_text(&mut line, b"page no ");
+    put_decimal(&mut line, number);
+    put_text(&mut line, b" at ");
+    put_decimal(&mut line, bit);
+    line
 }

@@ -1,9 +1,10 @@
 -- The tables of an accepted page have no fault, and mean the page's netlist.
-use Rattle.std.proofs.Common.{◌≡◌, ℕ, ◌+◌, ◌-◌, ◌<◌, ◌≤◌, false, eqb, List, [], ◌∷◌, ◌++◌, length, get_or, take, drop, replicate, None, Ok, Err, Option, Result, sym, refl, ap, ◌∙◌, subst, ap₂, arith}
+use Rattle.std.proofs.Common.{◌≡◌, ℕ, ◌+◌, ◌-◌, ◌<◌, ◌≤◌, false, eqb, List, [], ◌∷◌, ◌++◌, length, get_or, take, drop, replicate, Some, None, ◌⊎◌, inl, inr, Ok, Err, Option, Result, sym, refl, ap, ◌∙◌, subst, ap₂, arith}
 use Rattle.std.specs.List.{range_with_len}
 use Rattle.std.proofs.lemmas.List.{take_at, drop_at, length-append, length-take-le}
-use Rattle.std.proofs.lemmas.Bool.{le-ltb, eq-eqb, ne_eqb}
+use Rattle.std.proofs.lemmas.Bool.{lt-ltb, le-ltb, eq-eqb, ne_eqb}
 use Rattle.refusal.specs.declared.Fault.{Fault}
+use Rattle.refusal.specs.declared.Fault.TheVariants.{TooShort}
 use Rattle.refusal.proofs.CheckLaws.{first_of_none, or_none, or_else_none, fault_if_false}
 use Rattle.price.specs.Kind.{Kind}
 use Rattle.netlist.specs.Meaning.{Meaning}
@@ -15,7 +16,7 @@ use Rattle.page.specs.Layout.{modules_field, nets_field, pin_count, net_bit, net
 use Rattle.page.specs.declared.counts.Counts.{Counts}
 use Rattle.page.specs.Faults.{page_fault, room_fault, unpack_fault}
 use Rattle.page.specs.Unpacking.{Extends, Filled}
-use Rattle.loading.specs.Loading.{counted_fault, counted_meaning, page_meaning}
+use Rattle.loading.specs.Loading.{counted_fault, counted_meaning, page_meaning, LoadsPages}
 use Rattle.page.proofs.TableLaws.{count_more, length_net_pins, length_starts, length_prices}
 use Rattle.page.proofs.Accepted.{few_modules, few_nets, two_pins, pin_there, pin_new, net_pin_at, start_at, net_within}
 
@@ -147,25 +148,44 @@ pub loads_filled : {S P : Type 0} (means : S → Meaning P) (fault : Option Faul
 loads_filled means fault meant old new (Ok tt) h e = (refl, h.1)
 loads_filled means fault meant old new (Err f) h e = absurd (let a = h.0 in let z : ◌≡◌ {A = ℕ} 0 1 = cc in omega arith)
 
--- tables long enough: loading their first entries has the fault of those entries, and means them
-module _ {S P : Type 0} (means : S → Meaning P) (n : Counts) (starts pins : List ℕ) (prices : List P) (old new : S) (r : Result (Unit {0}) Fault) where
-  pub counted_loads : n.nets < length starts → n.pins ≤ length pins → n.nets ≤ length prices
-      → Loads means (tables_fault n.modules (take (n.nets + 1 - 0) starts) (take (n.pins - 0) pins) (length (take (n.nets - 0) prices)))
-      (tables_meaning n.modules (take (n.nets + 1 - 0) starts) (take (n.pins - 0) pins) (take (n.nets - 0) prices)) old new r
+-- what loading answers, it answers of the tables of pages too
+pub pages_load : {S P : Type 0} (k : Kind P) (means : S → Meaning P) (n : Counts) (starts pins : List ℕ) (prices : List P) (old new : S) (r : Result (Unit {0}) Fault)
+    → Loads means (counted_fault n starts pins prices) (counted_meaning n starts pins prices) old new r → LoadsPages k n starts pins prices (means new) r
+pages_load k means n starts pins prices old new r loads bytes s p c filled =
+    let l = loads_filled means (counted_fault n starts pins prices) (counted_meaning n starts pins prices) old new r loads (filled_fault k bytes s starts p pins c prices n filled) in
+    (l.0, l.1 ∙ filled_meaning k bytes s starts p pins c prices n filled)
+
+-- the first table that is too short
+module _ {P : Type 0} (n : Counts) (starts pins : List ℕ) (prices : List P) where
+  pub starts_short : length starts < n.nets + 1 → counted_fault n starts pins prices ≡ Some (TooShort 1)
+  starts_short h = rw (lt-ltb (length starts) (n.nets + 1) h)
+
+  pub pins_short : n.nets + 1 ≤ length starts → length pins < n.pins → counted_fault n starts pins prices ≡ Some (TooShort 2)
+  pins_short h i = rw (le-ltb (length starts) (n.nets + 1) h, lt-ltb (length pins) n.pins i)
+
+  pub prices_short : n.nets + 1 ≤ length starts → n.pins ≤ length pins → length prices < n.nets → counted_fault n starts pins prices ≡ Some (TooShort 3)
+  prices_short h i j = rw (le-ltb (length starts) (n.nets + 1) h, le-ltb (length pins) n.pins i, lt-ltb (length prices) n.nets j)
+
+  -- tables long enough: loading their first entries has the fault of those entries, and means them
+  pub counted_loads : {S : Type 0} (means : S → Meaning P) (old new : S) (r : Result (Unit {0}) Fault) (s p : List ℕ) (c : List P)
+      → n.nets + 1 ≤ length starts → n.pins ≤ length pins → n.nets ≤ length prices
+      → s ≡ take (n.nets + 1) starts → p ≡ take n.pins pins → c ≡ take n.nets prices
+      → Loads means (tables_fault n.modules s p (length c)) (tables_meaning n.modules s p c) old new r
       → Loads means (counted_fault n starts pins prices) (counted_meaning n starts pins prices) old new r
-  counted_loads h i j loads =
-      let a : n.nets + 1 - 0 ≡ n.nets + 1 = omega arith in
-      let b : n.pins - 0 ≡ n.pins = omega arith in
-      let d : n.nets - 0 ≡ n.nets = omega arith in
+  counted_loads means old new r s p c h i j s_is p_is c_is loads =
       let long : length (take n.nets prices) ≡ n.nets = length-take-le n.nets prices j in
+      let s' = take (n.nets + 1) starts in
+      let p' = take n.pins pins in
       let room : room_fault n.nets n.pins (length starts) (length pins) (length prices) ≡ None =
-      rw (le-ltb (length starts) (n.nets + 1) (omega arith), le-ltb (length pins) n.pins i, le-ltb (length prices) n.nets j) in
-      let moved = subst (λ (x : ℕ). Loads means (tables_fault n.modules (take (n.nets + 1) starts) (take n.pins pins) x)
-      (tables_meaning n.modules (take (n.nets + 1) starts) (take n.pins pins) (take n.nets prices)) old new r) long
-      (subst (λ (x : ℕ). Loads means (tables_fault n.modules (take (n.nets + 1) starts) (take n.pins pins) (length (take x prices)))
-      (tables_meaning n.modules (take (n.nets + 1) starts) (take n.pins pins) (take x prices)) old new r) d
-      (subst (λ (x : ℕ). Loads means (tables_fault n.modules (take (n.nets + 1) starts) (take x pins) (length (take (n.nets - 0) prices)))
-      (tables_meaning n.modules (take (n.nets + 1) starts) (take x pins) (take (n.nets - 0) prices)) old new r) b
-      (subst (λ (x : ℕ). Loads means (tables_fault n.modules (take x starts) (take (n.pins - 0) pins) (length (take (n.nets - 0) prices)))
-      (tables_meaning n.modules (take x starts) (take (n.pins - 0) pins) (take (n.nets - 0) prices)) old new r) a loads))) in
+      rw (le-ltb (length starts) (n.nets + 1) h, le-ltb (length pins) n.pins i, le-ltb (length prices) n.nets j) in
+      let moved =
+      subst (λ (x : ℕ). Loads means (tables_fault n.modules s' p' x) (counted_meaning n starts pins prices) old new r) long
+      (subst (λ xs. Loads means (tables_fault n.modules s' p' (length xs)) (tables_meaning n.modules s' p' xs) old new r) c_is
+      (subst (λ xs. Loads means (tables_fault n.modules s' xs (length c)) (tables_meaning n.modules s' xs c) old new r) p_is
+      (subst (λ xs. Loads means (tables_fault n.modules xs p (length c)) (tables_meaning n.modules xs p c) old new r) s_is loads))) in
       subst (λ f. Loads means f (counted_meaning n starts pins prices) old new r) (sym (or_none _ room)) moved
+
+-- what a part's end past the table says
+pub past_end : {m long : ℕ} → (m < 0) ⊎ (long < m) → long < m
+past_end (inl h) = absurd (omega arith)
+past_end (inr h) = h

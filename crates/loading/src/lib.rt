@@ -1,10 +1,8 @@
 //! From a page's tables to a netlist: what is unpacked always loads.
 #![tactic(auto)]
 
-ghost use Rattle.std.specs.Prelude.{◌≡◌, ℕ, ◌<◌, ◌≤◌, List, length, Some, None};
 ghost use Rattle.bottom.specs.LoadFaults.{Loads};
 ghost use Rattle.pin_tables.specs.Means.{means};
-ghost use Rattle.page.specs.Faults.{room_fault};
 ghost use Rattle.loading.specs.Loading.{counted_fault, counted_meaning, LoadsPages};
 
 use page::counts::Counts;
@@ -16,6 +14,7 @@ use refusal::Fault;
 ///
 /// Refuses tables that are shorter than that (10: starts, pins, prices), and then what loading them refuses.
 /// What `unpack_page` has filled is never refused, and means the page's nets.
+// The tables as the caller hands them in.
 pub fn load_unpacked<'a, P: Price>(
     tables: &mut PinTables<'a, P>,
     counts: Counts,
@@ -27,38 +26,13 @@ pub fn load_unpacked<'a, P: Price>(
         (counted_meaning counts starts.now pins.now prices.now) tables.old tables.new result }
     ensures pages { LoadsPages P.kind counts starts.now pins.now prices.now (means tables.new) result }
 {
-    load_counted(tables, counts, starts, pins, prices)
-}
-
-// The same, as the tables handed in decide.
-fn load_counted<'a, P: Price>(
-    tables: &mut PinTables<'a, P>,
-    counts: Counts,
-    starts: &'a [u32],
-    pins: &'a [u8],
-    prices: &'a [P],
-) -> Result<(), Fault>
-    ensures { Loads means (counted_fault counts starts.now pins.now prices.now)
-        (counted_meaning counts starts.now pins.now prices.now) tables.old tables.new result }
-{
     let Counts {
         modules,
         nets,
         pins: count,
     } = counts;
-    if starts.len() <= nets {
-        return Err(Fault::TooShort { table: 1 });
-    }
-    if pins.len() < count {
-        return Err(Fault::TooShort { table: 2 });
-    }
-    if prices.len() < nets {
-        return Err(Fault::TooShort { table: 3 });
-    }
-    tables.load(
-        modules,
-        &starts[0..nets + 1],
-        &pins[0..count],
-        &prices[0..nets],
-    )
+    let starts = starts.get(..=nets).ok_or(Fault::TooShort { table: 1 })?;
+    let pins = pins.get(..count).ok_or(Fault::TooShort { table: 2 })?;
+    let prices = prices.get(..nets).ok_or(Fault::TooShort { table: 3 })?;
+    tables.load(modules, starts, pins, prices)
 }

@@ -11,19 +11,21 @@ pub struct ModuleSet {
     pub word: u64,
 }
 
+/// The modules whose bits are 1.
+impl From<u64> for ModuleSet {
+    ghost from_gives = { λ word set. set.word ≡ word };
+
+    fn from(word: u64) -> ModuleSet {
+        ModuleSet { word }
+    }
+}
+
 impl ModuleSet {
     /// The set without modules.
     pub fn empty() -> ModuleSet
         ensures { (k : ℕ) → is_in result.word k ≡ false }
     {
         ModuleSet { word: 0 }
-    }
-
-    /// The modules whose bits are 1.
-    pub fn from_word(word: u64) -> ModuleSet
-        ensures { result.word ≡ word }
-    {
-        ModuleSet { word }
     }
 
     /// The modules at or past a number.
@@ -112,32 +114,28 @@ impl ModuleSet {
     pub fn lowest(self) -> Option<u8>
         ensures { result ≡ slice_get (members self.word) 0 }
     {
-        if self.word == 0 {
-            return None;
-        }
-        Some(self.word.leading_zeros() as u8)
+        (self.word != 0).then_some(self.word.leading_zeros() as u8)
     }
 
     /// The module of a set of one.
     pub fn only(self) -> Option<u8>
         ensures { result ≡ lone (members self.word) }
     {
-        if self.size() != 1 {
-            return None;
+        if self.size() == 1 {
+            self.lowest()
+        } else {
+            None
         }
-        self.lowest()
     }
 
+    // By leading zeros, a rule of the project: so `k` modules are taken out, and no iterator's `nth` serves.
     /// Module number `k` in rising order, counted from 0.
     pub fn kth(self, k: usize) -> Option<u8>
         ensures { result ≡ slice_get (members self.word) k }
     {
         let mut rest = self;
         for _i in 0..k {
-            match rest.lowest() {
-                Some(lowest) => rest = rest.without(lowest),
-                None => return None,
-            }
+            rest = rest.without(rest.lowest()?);
         }
         rest.lowest()
     }

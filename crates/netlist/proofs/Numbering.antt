@@ -4,7 +4,7 @@ use native.Mathlib.Nat.{suc_inj}
 use lib.ListN.{length-map}
 use Rattle.std.proofs.lemmas.Bool.{cases_lt, cases_eq}
 use Rattle.netlist.specs.Places.{place, groups, Numbered}
-use Rattle.netlist.specs.Changes.{united_place_lem, united}
+use Rattle.netlist.specs.Changes.{united_place, united}
 use Rattle.netlist.specs.Uniting.{InEither, Uniting, SameGroups, OnlyNumbering}
 use Rattle.netlist.proofs.UnitedPlaces.{united_same, united_apart, left_of, left_of_none, left_of_all, united_in_turn, left_of_more}
 
@@ -32,10 +32,10 @@ united_numbered a b t (p ∷ ps) d w = (
 united_groups : (a b t : ℕ) (row : List ℕ) → (a ≡ b → ⊥) → Numbered t row → max (left_of a b t) (groups (united a b row)) ≡ left_of a b (max t (groups row))
 united_groups a b t [] d w = let e : max t 0 ≡ t = omega arith in sym (ap (left_of a b) e ∙ omega arith)
 united_groups a b t (p ∷ ps) d w =
-    let step : max (suc (united_place_lem a b p)) (left_of a b t) ≡ left_of a b (max (suc p) t) = left_of_more a b t p d w.0 in
+    let step : max (suc (united_place a b p)) (left_of a b t) ≡ left_of a b (max (suc p) t) = left_of_more a b t p d w.0 in
     let rest : max (left_of a b (max (suc p) t)) (groups (united a b ps)) ≡ left_of a b (max (max (suc p) t) (groups ps)) = united_groups a b (max (suc p) t) ps d w.1 in
     let same : max (max (suc p) t) (groups ps) ≡ max t (max (suc p) (groups ps)) = omega arith in
-    swapped (left_of a b t) (suc (united_place_lem a b p)) (groups (united a b ps))
+    swapped (left_of a b t) (suc (united_place a b p)) (groups (united a b ps))
     ∙ (ap (λ z. max z (groups (united a b ps))) step ∙ (rest ∙ ap (left_of a b) same))
   where
     swapped : (x y z : ℕ) → max x (max y z) ≡ max (max y x) z
@@ -43,19 +43,19 @@ united_groups a b t (p ∷ ps) d w =
 
 pub uniting : Uniting
 uniting a b row w ha hb d = record {
-  as_long = length-map row (united_place_lem a b);
+  as_long = length-map row (united_place a b);
   numbered = subst (λ z. Numbered z (united a b row)) (left_of_none a b) (united_numbered a b 0 row d w);
   one_fewer = ap suc (from_none (groups (united a b row)) (groups row) (left_of_none a b) (united_groups a b 0 row d w)) ∙ left_of_all a b (groups row) ha hb;
-  kept = λ i j hi hj e. new i hi ∙ (ap (united_place_lem a b) e ∙ sym (new j hj));
+  kept = λ i j hi hj e. new i hi ∙ (ap (united_place a b) e ∙ sym (new j hj));
   joined = λ i j hi hj x y. new i hi ∙ (at_b i x ∙ (sym (at_b j y) ∙ sym (new j hj)));
   no_others = λ i j hi hj e. united_apart a b (place row i) (place row j) d (sym (new i hi) ∙ (e ∙ new j hj));
 }
   where
-    new : (i : ℕ) → i < length row → place (united a b row) i ≡ united_place_lem a b (place row i)
-    new = place_map (united_place_lem a b) row
+    new : (i : ℕ) → i < length row → place (united a b row) i ≡ united_place a b (place row i)
+    new = place_map (united_place a b) row
 
-    at_b : (i : ℕ) → InEither a b row i → united_place_lem a b (place row i) ≡ united_place_lem a b b
-    at_b i o = ⊎_elim (λ e. ap (united_place_lem a b) e ∙ united_same a b) (λ e. ap (united_place_lem a b) e) o
+    at_b : (i : ℕ) → InEither a b row i → united_place a b (place row i) ≡ united_place a b b
+    at_b i o = ⊎_elim (λ e. ap (united_place a b) e ∙ united_same a b) (λ e. ap (united_place a b) e) o
 
     from_none : (x g : ℕ) → left_of a b 0 ≡ 0 → max (left_of a b 0) x ≡ left_of a b (max 0 g) → x ≡ left_of a b g
     from_none x g none e =

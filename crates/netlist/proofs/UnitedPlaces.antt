@@ -2,25 +2,25 @@
 use Rattle.std.proofs.Common.{◌≡◌, ℕ, suc, pred, ◌<◌, ◌≤◌, max, cond, ltb, ◌⊎◌, ⊎_elim, arith}
 use Rattle.std.proofs.lemmas.Bool.Decides.{nat_tests}
 use Rattle.std.proofs.lemmas.Bool.{cases_order}
-use Rattle.netlist.specs.Changes.{united_place_lem}
+use Rattle.netlist.specs.Changes.{united_place}
 
-pub united_lower : (a b p : ℕ) → p < max a b → united_place_lem a b p ≡ p
+pub united_lower : (a b p : ℕ) → p < max a b → united_place a b p ≡ p
 united_lower a b p h = grind (arith, nat_tests)
 
-pub united_higher : (a b p : ℕ) → max a b < p → united_place_lem a b p ≡ pred p
+pub united_higher : (a b p : ℕ) → max a b < p → united_place a b p ≡ pred p
 united_higher a b p h = grind (arith, nat_tests)
 
-pub united_zero : (a b : ℕ) → (a ≡ b → ⊥) → united_place_lem a b 0 ≡ 0
+pub united_zero : (a b : ℕ) → (a ≡ b → ⊥) → united_place a b 0 ≡ 0
 united_zero a b d = grind (arith, nat_tests)
 
-pub united_same : (a b : ℕ) → united_place_lem a b a ≡ united_place_lem a b b
+pub united_same : (a b : ℕ) → united_place a b a ≡ united_place a b b
 united_same a b = grind (arith, nat_tests)
 
-pub united_below : (a b g p : ℕ) → a < suc g → b < suc g → (a ≡ b → ⊥) → p < suc g → united_place_lem a b p < g
+pub united_below : (a b g p : ℕ) → a < suc g → b < suc g → (a ≡ b → ⊥) → p < suc g → united_place a b p < g
 united_below a b g p i j d h = grind (arith, nat_tests)
 
 -- every place below g is the new place of one
-pub united_onto : (a b g q : ℕ) → q < g → (p : ℕ) × (p < suc g) × (united_place_lem a b p ≡ q)
+pub united_onto : (a b g q : ℕ) → q < g → (p : ℕ) × (p < suc g) × (united_place a b p ≡ q)
 united_onto a b g q h = ⊎_elim
     (λ e. (suc q, omega arith, united_higher a b (suc q) (omega arith)))
     (⊎_elim
@@ -29,7 +29,7 @@ united_onto a b g q h = ⊎_elim
     (cases_order q (max a b))
 
 -- only the places a and b fall together
-pub united_apart : (a b p q : ℕ) → (a ≡ b → ⊥) → united_place_lem a b p ≡ united_place_lem a b q → (p ≡ q) ⊎ (((p ≡ a) ⊎ (p ≡ b)) × ((q ≡ a) ⊎ (q ≡ b)))
+pub united_apart : (a b p q : ℕ) → (a ≡ b → ⊥) → united_place a b p ≡ united_place a b q → (p ≡ q) ⊎ (((p ≡ a) ⊎ (p ≡ b)) × ((q ≡ a) ⊎ (q ≡ b)))
 united_apart a b p q d h = grind (arith, nat_tests)
 
 -- how many of the first t groups are left once a and b are one
@@ -42,8 +42,8 @@ left_of_none a b = grind (arith, nat_tests)
 pub left_of_all : (a b g : ℕ) → a < g → b < g → suc (left_of a b g) ≡ g
 left_of_all a b g i j = grind (arith, nat_tests)
 
-pub united_in_turn : (a b t p : ℕ) → (a ≡ b → ⊥) → p ≤ t → united_place_lem a b p ≤ left_of a b t
+pub united_in_turn : (a b t p : ℕ) → (a ≡ b → ⊥) → p ≤ t → united_place a b p ≤ left_of a b t
 united_in_turn a b t p d h = grind (arith, nat_tests)
 
-pub left_of_more : (a b t p : ℕ) → (a ≡ b → ⊥) → p ≤ t → max (suc (united_place_lem a b p)) (left_of a b t) ≡ left_of a b (max (suc p) t)
+pub left_of_more : (a b t p : ℕ) → (a ≡ b → ⊥) → p ≤ t → max (suc (united_place a b p)) (left_of a b t) ≡ left_of a b (max (suc p) t)
 left_of_more a b t p d h = grind (arith, nat_tests)

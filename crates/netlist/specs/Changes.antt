@@ -4,11 +4,11 @@ use Rattle.netlist.specs.Places.{place}
 use Rattle.netlist.specs.Meaning.{Meaning}
 
 -- place p once the groups a and b are one: that has the lower of the two numbers, and the numbers above the higher close up
-abbrev pub united_place_lem : ℕ → ℕ → ℕ → ℕ
-united_place_lem a b p = cond (nat_lt p (max a b)) p (cond (p == max a b) (min a b) (pred p))
+abbrev pub united_place : ℕ → ℕ → ℕ → ℕ
+united_place a b p = cond (nat_lt p (max a b)) p (cond (p == max a b) (min a b) (pred p))
 
 abbrev pub united : ℕ → ℕ → List ℕ → List ℕ
-united a b row = map (united_place_lem a b) row
+united a b row = map (united_place a b) row
 
 -- the row once home modules i and j are in one group; where they already are, it stays
 abbrev pub strapped_row : ℕ → ℕ → List ℕ → List ℕ

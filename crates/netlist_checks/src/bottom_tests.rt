@@ -1,5 +1,6 @@
 //! Loading: every refusal with its place, and what is answered after.
 use bit_rows::BitRows;
+use fixtures::{SEVEN, told};
 use netlist::Netlist;
 use pin_tables::PinTables;
 use price::Price;
@@ -10,22 +11,17 @@ use std::test::Fail;
 
 const ONE: Wires = Wires { count: 1 };
 
-const SEVEN: Wires = Wires { count: 7 };
-
-fn refused(
+// Refused, and the bottom, which was empty, stays so.
+fn left_empty<N: Netlist>(
     rt: &impl Abort,
     answer: Result<(), Fault>,
+    bottom: &N,
     number: u8,
     place: Place,
-) -> Result<(), Fail> {
-    match answer {
-        Ok(_) => Err(Fail::new("accepted")),
-        Err(fault) => {
-            assert_eq!(rt; fault.number(), number);
-            assert_eq!(rt; fault.place(), place);
-            Ok(())
-        }
-    }
+) {
+    assert_eq!(rt; told(answer), Some((number, place)));
+    assert_eq!(rt; bottom.home_count(), 0);
+    assert_eq!(rt; bottom.net_count(), 0);
 }
 
 fn tables_refused<'a>(
@@ -36,17 +32,10 @@ fn tables_refused<'a>(
     prices: &'a [Wires],
     number: u8,
     place: Place,
-) -> Result<(), Fail> {
+) {
     let mut tables = PinTables::empty();
-    refused(
-        rt,
-        tables.load(modules, starts, pins, prices),
-        number,
-        place,
-    )?;
-    assert_eq!(rt; tables.home_count(), 0);
-    assert_eq!(rt; tables.net_count(), 0);
-    Ok(())
+    let answer = tables.load(modules, starts, pins, prices);
+    left_empty(rt, answer, &tables, number, place);
 }
 
 fn rows_refused<'a>(
@@ -56,49 +45,37 @@ fn rows_refused<'a>(
     prices: &'a [Wires],
     number: u8,
     place: Place,
-) -> Result<(), Fail> {
-    let mut bits = BitRows::empty();
-    refused(rt, bits.load(modules, rows, prices), number, place)?;
-    assert_eq!(rt; bits.home_count(), 0);
-    assert_eq!(rt; bits.net_count(), 0);
-    Ok(())
-}
-
-fn modules_load<'a>(
-    rt: &impl Abort,
-    starts: &'a [u32],
-    pins: &'a [u8],
-    rows: &'a [u64],
-    prices: &'a [Wires],
 ) {
-    let mut tables = PinTables::empty();
-    assert!(rt; tables.load(64, starts, pins, prices).is_ok());
-    assert_eq!(rt; tables.module_count(), 64);
-    assert_eq!(rt; tables.place(63), Some(63));
-    assert_eq!(rt; tables.place(64), None);
     let mut bits = BitRows::empty();
-    assert!(rt; bits.load(64, rows, prices).is_ok());
-    assert_eq!(rt; bits.module_count(), 64);
+    let answer = bits.load(modules, rows, prices);
+    left_empty(rt, answer, &bits, number, place);
 }
 
 #[test]
 fn sixty_four_modules_load(rt: HostRuntime) {
-    modules_load(&rt, &[0], &[], &[], &[]);
+    let prices: [Wires; 0] = [];
+    let mut tables = PinTables::empty();
+    assert!(rt; tables.load(64, &[0], &[], &prices).is_ok());
+    assert_eq!(rt; tables.module_count(), 64);
+    assert_eq!(rt; tables.place(63), Some(63));
+    assert_eq!(rt; tables.place(64), None);
+    let mut bits = BitRows::empty();
+    assert!(rt; bits.load(64, &[], &prices).is_ok());
+    assert_eq!(rt; bits.module_count(), 64);
 }
 
 #[test]
-fn sixty_five_modules_are_refused(rt: HostRuntime) -> Result<(), Fail> {
-    tables_refused(&rt, 65, &[0], &[], &[], 3, Place::Call)?;
-    rows_refused(&rt, 65, &[], &[], 3, Place::Call)
+fn sixty_five_modules_are_refused(rt: HostRuntime) {
+    tables_refused(&rt, 65, &[0], &[], &[], 3, Place::Call);
+    rows_refused(&rt, 65, &[], &[], 3, Place::Call);
 }
 
 // Nets of the pins 0 and 1, in tables of both forms.
 fn starts_of(rt: &HostRuntime, nets: u32) -> Result<Vec<u32>, Fail> {
     let mut starts = Vec::new(rt.alloc());
-    for i in 0..nets {
+    for i in 0..=nets {
         starts.push(i.wrapping_mul(2))?;
     }
-    starts.push(nets.wrapping_mul(2))?;
     Ok(starts)
 }
 
@@ -111,40 +88,24 @@ fn pins_of(rt: &HostRuntime, nets: u32) -> Result<Vec<u8>, Fail> {
     Ok(pins)
 }
 
-// Whether so many nets of the pins 0 and 1 load, in both forms.
-fn both_load<'a>(
-    rt: &impl Abort,
-    starts: &'a [u32],
-    pins: &'a [u8],
-    rows: &'a [u64],
-    prices: &'a [Wires],
-) {
-    let nets = prices.len();
-    let mut tables = PinTables::empty();
-    assert!(rt; tables.load(2, starts, pins, prices).is_ok());
-    assert_eq!(rt; tables.net_count(), nets);
-    assert_eq!(rt; tables.pin(1023, 1), Some(1));
-    let mut bits = BitRows::empty();
-    assert!(rt; bits.load(2, rows, prices).is_ok());
-    assert_eq!(rt; bits.net_count(), nets);
-    assert_eq!(rt; bits.pin(1023, 1), Some(1));
-}
-
 #[test]
 fn a_thousand_and_twenty_four_nets_load(rt: HostRuntime) -> Result<(), Fail> {
     let starts = starts_of(&rt, 1024)?;
     let pins = pins_of(&rt, 1024)?;
-    let mut rows = Vec::new(rt.alloc());
-    rows.resize(1024, 0xC000_0000_0000_0000u64)?;
-    let mut prices = Vec::new(rt.alloc());
-    prices.resize(1024, ONE)?;
-    both_load(
-        &rt,
-        starts.as_slice(),
-        pins.as_slice(),
-        rows.as_slice(),
-        prices.as_slice(),
+    let rows = vec![in rt.alloc(); 0xC000_0000_0000_0000u64; 1024]?;
+    let prices = vec![in rt.alloc(); ONE; 1024]?;
+    let mut tables = PinTables::empty();
+    assert!(rt;
+        tables
+            .load(2, starts.as_slice(), pins.as_slice(), prices.as_slice())
+            .is_ok()
     );
+    assert_eq!(rt; tables.net_count(), 1024);
+    assert_eq!(rt; tables.pin(1023, 1), Some(1));
+    let mut bits = BitRows::empty();
+    assert!(rt; bits.load(2, rows.as_slice(), prices.as_slice()).is_ok());
+    assert_eq!(rt; bits.net_count(), 1024);
+    assert_eq!(rt; bits.pin(1023, 1), Some(1));
     Ok(())
 }
 
@@ -152,10 +113,8 @@ fn a_thousand_and_twenty_four_nets_load(rt: HostRuntime) -> Result<(), Fail> {
 fn one_net_more_is_refused(rt: HostRuntime) -> Result<(), Fail> {
     let starts = starts_of(&rt, 1025)?;
     let pins = pins_of(&rt, 1025)?;
-    let mut rows = Vec::new(rt.alloc());
-    rows.resize(1025, 0xC000_0000_0000_0000u64)?;
-    let mut prices = Vec::new(rt.alloc());
-    prices.resize(1025, ONE)?;
+    let rows = vec![in rt.alloc(); 0xC000_0000_0000_0000u64; 1025]?;
+    let prices = vec![in rt.alloc(); ONE; 1025]?;
     tables_refused(
         &rt,
         2,
@@ -164,28 +123,29 @@ fn one_net_more_is_refused(rt: HostRuntime) -> Result<(), Fail> {
         prices.as_slice(),
         4,
         Place::Call,
-    )?;
-    rows_refused(&rt, 2, rows.as_slice(), prices.as_slice(), 4, Place::Call)
+    );
+    rows_refused(&rt, 2, rows.as_slice(), prices.as_slice(), 4, Place::Call);
+    Ok(())
 }
 
 #[test]
-fn tables_that_disagree(rt: HostRuntime) -> Result<(), Fail> {
+fn tables_that_disagree(rt: HostRuntime) {
     let one = [ONE];
-    tables_refused(&rt, 2, &[0], &[0, 1], &one, 5, Place::Call)?;
-    tables_refused(&rt, 2, &[0, 2, 2], &[0, 1], &one, 5, Place::Call)?;
-    tables_refused(&rt, 2, &[], &[0, 1], &one, 5, Place::Call)?;
-    tables_refused(&rt, 3, &[1, 3], &[0, 1, 2], &one, 5, Place::Call)?;
-    tables_refused(&rt, 2, &[0, 2], &[0, 1, 1], &one, 5, Place::Call)?;
-    rows_refused(&rt, 2, &[], &one, 5, Place::Call)?;
-    rows_refused(&rt, 2, &[3, 3], &one, 5, Place::Call)
+    tables_refused(&rt, 2, &[0], &[0, 1], &one, 5, Place::Call);
+    tables_refused(&rt, 2, &[0, 2, 2], &[0, 1], &one, 5, Place::Call);
+    tables_refused(&rt, 2, &[], &[0, 1], &one, 5, Place::Call);
+    tables_refused(&rt, 3, &[1, 3], &[0, 1, 2], &one, 5, Place::Call);
+    tables_refused(&rt, 2, &[0, 2], &[0, 1, 1], &one, 5, Place::Call);
+    rows_refused(&rt, 2, &[], &one, 5, Place::Call);
+    rows_refused(&rt, 2, &[3, 3], &one, 5, Place::Call);
 }
 
 #[test]
-fn nets_with_too_few_pins(rt: HostRuntime) -> Result<(), Fail> {
-    tables_refused(&rt, 2, &[0, 1], &[0], &[ONE], 6, Place::Net(0))?;
-    tables_refused(&rt, 2, &[0, 2, 2], &[0, 1], &[ONE, ONE], 6, Place::Net(1))?;
+fn nets_with_too_few_pins(rt: HostRuntime) {
+    tables_refused(&rt, 2, &[0, 1], &[0], &[ONE], 6, Place::Net(0));
+    tables_refused(&rt, 2, &[0, 2, 2], &[0, 1], &[ONE, ONE], 6, Place::Net(1));
     // starts that fall count as too few, and every net is looked at before a pin
-    tables_refused(&rt, 2, &[0, 4, 2], &[0, 9], &[ONE, ONE], 6, Place::Net(1))?;
+    tables_refused(&rt, 2, &[0, 4, 2], &[0, 9], &[ONE, ONE], 6, Place::Net(1));
     rows_refused(
         &rt,
         2,
@@ -193,7 +153,7 @@ fn nets_with_too_few_pins(rt: HostRuntime) -> Result<(), Fail> {
         &[ONE, ONE],
         6,
         Place::Net(1),
-    )?;
+    );
     rows_refused(
         &rt,
         2,
@@ -201,11 +161,11 @@ fn nets_with_too_few_pins(rt: HostRuntime) -> Result<(), Fail> {
         &[ONE, ONE],
         6,
         Place::Net(1),
-    )
+    );
 }
 
 #[test]
-fn pins_that_are_not_there_or_repeat(rt: HostRuntime) -> Result<(), Fail> {
+fn pins_that_are_not_there_or_repeat(rt: HostRuntime) {
     let two = [ONE, ONE];
     tables_refused(
         &rt,
@@ -218,7 +178,7 @@ fn pins_that_are_not_there_or_repeat(rt: HostRuntime) -> Result<(), Fail> {
             net: 1,
             position: 2,
         },
-    )?;
+    );
     tables_refused(
         &rt,
         3,
@@ -230,7 +190,7 @@ fn pins_that_are_not_there_or_repeat(rt: HostRuntime) -> Result<(), Fail> {
             net: 1,
             position: 2,
         },
-    )?;
+    );
     tables_refused(
         &rt,
         3,
@@ -242,7 +202,7 @@ fn pins_that_are_not_there_or_repeat(rt: HostRuntime) -> Result<(), Fail> {
             net: 0,
             position: 1,
         },
-    )?;
+    );
     tables_refused(
         &rt,
         3,
@@ -254,7 +214,7 @@ fn pins_that_are_not_there_or_repeat(rt: HostRuntime) -> Result<(), Fail> {
             net: 0,
             position: 0,
         },
-    )?;
+    );
     rows_refused(
         &rt,
         3,
@@ -265,7 +225,7 @@ fn pins_that_are_not_there_or_repeat(rt: HostRuntime) -> Result<(), Fail> {
             net: 1,
             position: 2,
         },
-    )?;
+    );
     rows_refused(
         &rt,
         3,
@@ -276,7 +236,7 @@ fn pins_that_are_not_there_or_repeat(rt: HostRuntime) -> Result<(), Fail> {
             net: 0,
             position: 0,
         },
-    )
+    );
 }
 
 #[test]
@@ -309,20 +269,21 @@ fn both_bottoms_answer_alike(rt: HostRuntime) {
 }
 
 #[test]
-fn a_refused_load_leaves_the_bottom(rt: HostRuntime) -> Result<(), Fail> {
+fn a_refused_load_leaves_the_bottom(rt: HostRuntime) {
     let prices = [ONE];
     let mut tables = PinTables::empty();
     assert!(rt; tables.load(2, &[0, 2], &[0, 1], &prices).is_ok());
-    refused(
-        &rt,
-        tables.load(3, &[0, 2], &[0, 9], &prices),
-        7,
-        Place::Pin {
-            net: 0,
-            position: 1,
-        },
-    )?;
+    let answer = tables.load(3, &[0, 2], &[0, 9], &prices);
+    assert_eq!(rt;
+        told(answer),
+        Some((
+            7,
+            Place::Pin {
+                net: 0,
+                position: 1,
+            },
+        ))
+    );
     assert_eq!(rt; tables.home_count(), 2);
     assert_eq!(rt; tables.pin(0, 1), Some(1));
-    Ok(())
 }

@@ -1,5 +1,6 @@
 pub mod FieldLaws
 pub mod PinLaws
+pub mod PadLaws
 pub mod TableLaws
 pub mod PageLaws
 pub mod Accepted

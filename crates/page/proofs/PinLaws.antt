@@ -1,5 +1,8 @@
 -- Laws of pins and nets: how the checks of one pin or one net come out.
-use Rattle.std.proofs.Common.{◌≡◌, ℕ, zero, suc, ◌+◌, ◌<◌, ◌≤◌, true, false, ◌||◌, eqb, List, Some, None, refl, inl, inr, add-one, arith}
+use Rattle.std.proofs.Common.{◌≡◌, ℕ, zero, suc, ◌<◌, ◌≤◌, Bool, true, false, ◌||◌, eqb, List, length, get_or, Some, None, sym, refl, ◌∙◌, zero-add, inl, inr, arith}
+use Rattle.std.specs.Bool.{MatchBool}
+use Rattle.std.specs.List.{range_with_len, AllWithin, HoldsAt}
+use Rattle.std.proofs.lemmas.List.FromFn.{length-range_with_len, get_or-range_with_len}
 use Rattle.std.proofs.lemmas.Bool.{cases_lt, lt-ltb, le-ltb, eq-eqb, ne_eqb}
 use Rattle.refusal.specs.declared.Place.TheVariants.{Bit}
 use Rattle.refusal.specs.declared.Fault.{Fault}
@@ -13,15 +16,12 @@ or_true true = refl
 or_true false = refl
 
 module _ (bytes : List ℕ) (at : ℕ) where
-  pub among_none : (v : ℕ) → among bytes at v 0 ≡ false
+  none_among : (v n : ℕ) → ((k : ℕ) → k < n → pin bytes at k ≡ v → ⊥) → among bytes at v n ≡ false
   unfolding among
-  among_none v = refl
+  none_among v zero f = refl
+  none_among v (suc n) f = rw (none_among v n (λ k h. f k (omega arith)), ne_eqb (pin bytes at n) v (f n (omega arith)))
 
-  pub among_more : (v n : ℕ) → among bytes at v n ≡ false → (pin bytes at n ≡ v → ⊥) → among bytes at v (n + 1) ≡ false
-  unfolding among
-  among_more v n p ne = rw (add-one, p, ne_eqb (pin bytes at n) v ne)
-
-  pub among_at : (v n m : ℕ) → pin bytes at n ≡ v → n < m → among bytes at v m ≡ true
+  among_at : (v n m : ℕ) → pin bytes at n ≡ v → n < m → among bytes at v m ≡ true
   unfolding among
   among_at v n zero e l = absurd (omega arith)
   among_at v n (suc m) e l =
@@ -32,6 +32,19 @@ module _ (bytes : List ℕ) (at : ℕ) where
             let q : eqb (pin bytes at m) v ≡ true = rw s at (eq-eqb (pin bytes at n) v e) in
             rw q (or_true (among bytes at v m))
       ]
+
+  -- what a search over the first pins finds
+  pub among_searched : (v n : ℕ) (r : Bool)
+      → MatchBool r ((k : ℕ) × (k < length (range_with_len 0 n)) × HoldsAt (λ i. pin bytes at i ≡ v) (range_with_len 0 n) k)
+      (AllWithin (λ i. pin bytes at i ≡ v → ⊥) (range_with_len 0 n) 0 (length (range_with_len 0 n)))
+      → r ≡ among bytes at v n
+  among_searched v n true (k, h, e) =
+      let l = length-range_with_len 0 n in
+      let i : get_or (range_with_len 0 n) k 0 ≡ k = get_or-range_with_len 0 n k 0 (omega arith) ∙ zero-add k in
+      sym (among_at v k n (rw i at (e 0)) (omega arith))
+  among_searched v n false f =
+      let l = length-range_with_len 0 n in
+      sym (none_among v n (λ k h. let i : get_or (range_with_len 0 n) k 0 ≡ k = get_or-range_with_len 0 n k 0 h ∙ zero-add k in rw i at (f k 0 (omega arith) (omega arith))))
 
   module _ (modules : ℕ) where
     pub pin_passes : (k : ℕ) → ends bytes (pin_bit at k) 6 ≡ None → pin bytes at k < modules → among bytes at (pin bytes at k) k ≡ false → pin_fault bytes modules at k ≡ None

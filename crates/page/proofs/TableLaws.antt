@@ -1,14 +1,24 @@
 -- Laws of the tables that the first nets of a page fill.
-use Rattle.std.proofs.Common.{◌≡◌, ℕ, zero, suc, ◌+◌, ◌*◌, ◌<◌, ◌≤◌, List, [], ◌∷◌, ◌++◌, length, take, drop, set, sym, refl, ap, ◌∙◌, inl, inr, add-zero, add_assoc, add-one, arith}
-use Rattle.std.proofs.lemmas.List.{append_assoc, length-append, set_at, drop_more, length_push, append-nil, take-append-drop, take_at, drop_at, drop-drop, length-take-le}
+use Rattle.std.proofs.Common.{◌≡◌, ℕ, zero, suc, ◌+◌, ◌*◌, ◌<◌, ◌≤◌, ◌^◌, ◌-◌, List, [], ◌∷◌, ◌++◌, length, drop, set, sym, refl, ap, ◌∙◌, inl, inr, add-one, arith}
+use Rattle.std.proofs.lemmas.List.{append_assoc, length-append, set_at, drop_more, length_push, take_at, drop_at, drop-drop, drop_all, append-nil}
 use Rattle.std.proofs.lemmas.Bool.{cases_lt}
 use Rattle.price.specs.Kind.{Kind}
+use borrow.Rule.Slice.PartMut.{put_mid}
+use Rattle.page.specs.Unpacking.{Holds, Extends}
 use Rattle.page.specs.Layout.{pin, pin_count, price_field, net_end, net_bit, net_pins, pins_table, starts_table, prices_table}
 
 -- one more entry written after those of xs, over a table
 pub put_more : {X : Type 0} (xs table : List X) (n : ℕ) (v : X) → length xs ≡ n → n < length table → set (xs ++ drop n table) n v ≡ (xs ++ v ∷ []) ++ drop (n + 1) table
 put_more xs table n v e h =
     rw (drop_more table n v h) (set_at xs _ (drop (n + 1) table) v n e ∙ sym (append_assoc xs (v ∷ []) (drop (n + 1) table)))
+
+-- a table that is written to its end
+pub written : {X : Type 0} (xs table : List X) (n : ℕ) → length table ≤ n → xs ++ drop n table ≡ xs
+written xs table n h = rw drop_all (append-nil xs)
+
+-- a table whose first entries are written
+pub extends : {X : Type 0} (xs new table : List X) (n : ℕ) → new ≡ xs → length xs ≡ n → Extends xs table (new ++ drop n table)
+extends xs new table n e long = rw (e, long) refl
 
 -- what does not fall from step to step does not fall
 rises : (f : ℕ → ℕ) → ((i : ℕ) → f i ≤ f (i + 1)) → (i n : ℕ) → i ≤ n → f i ≤ f n
@@ -52,24 +62,14 @@ module _ (bytes : List ℕ) where
   pub pins_rise : (i n : ℕ) → i ≤ n → length (pins_table bytes i) ≤ length (pins_table bytes n)
   pins_rise = rises (λ i. length (pins_table bytes i)) (λ i. omega (arith, count_more i))
 
-  -- The pins of a net over a table, from an entry on: none yet, and one more.
-  pub net_pins_none : (at from : ℕ) (table : List ℕ) → table ≡ (take from table ++ net_pins bytes at 0) ++ drop (from + 0) table
-  unfolding net_pins
-  net_pins_none at from table = rw (append-nil (take from table), add-zero) (sym (take-append-drop from table))
-
+  -- one more pin of a net over a table
   net_pins_more : (at k : ℕ) → net_pins bytes at (k + 1) ≡ net_pins bytes at k ++ (pin bytes at k ∷ [])
   unfolding net_pins
   net_pins_more at k = rw add-one
 
-  pub net_pins_put : (at k from : ℕ) (table : List ℕ) → from + k < length table
-      → set ((take from table ++ net_pins bytes at k) ++ drop (from + k) table) (from + k) (pin bytes at k)
-      ≡ (take from table ++ net_pins bytes at (k + 1)) ++ drop (from + (k + 1)) table
-  net_pins_put at k from table h =
-      let f : from ≤ length table = omega arith in
-      let e : length (take from table ++ net_pins bytes at k) ≡ from + k =
-      length-append (take from table) (net_pins bytes at k) ∙ rw (length-take-le from table f, length_net_pins at k) in
-      put_more (take from table ++ net_pins bytes at k) table (from + k) _ e h
-      ∙ rw (net_pins_more at k, append_assoc (take from table) (net_pins bytes at k) (pin bytes at k ∷ []), add_assoc from k 1)
+  pub net_pins_put : (at k : ℕ) (table : List ℕ) → k < length table
+      → set (net_pins bytes at k ++ drop k table) k (pin bytes at k) ≡ net_pins bytes at (k + 1) ++ drop (k + 1) table
+  net_pins_put at k table h = put_more (net_pins bytes at k) table k _ (length_net_pins at k) h ∙ rw (net_pins_more at k)
 
   pub length_starts : (i : ℕ) → length (starts_table bytes i) ≡ i + 1
   unfolding starts_table
@@ -97,14 +97,21 @@ module _ (bytes : List ℕ) where
   unfolding prices_table
   prices_put k i table h = put_more (prices_table bytes k i) table i _ (length_prices k i) h ∙ rw (add-one i)
 
-  pub pins_put : (i n : ℕ) (table : List ℕ) → n ≡ length (pins_table bytes i)
-      → (take n (pins_table bytes i ++ drop n table) ++ net_pins bytes (net_bit bytes i) (pin_count bytes (net_bit bytes i)))
-      ++ drop (n + pin_count bytes (net_bit bytes i)) (pins_table bytes i ++ drop n table)
-      ≡ pins_table bytes (i + 1) ++ drop (n + pin_count bytes (net_bit bytes i)) table
-  pins_put i n table e =
-      let count = pin_count bytes (net_bit bytes i) in
-      let d : drop (n + count) (pins_table bytes i ++ drop n table) ≡ drop (n + count) table =
-      sym (drop-drop count n (pins_table bytes i ++ drop n table))
-      ∙ ap (drop count) (drop_at (pins_table bytes i) (drop n table) n (sym e))
-      ∙ drop-drop count n table in
-      rw (take_at (pins_table bytes i) (drop n table) n (sym e), d, pins_more i)
+  -- the pins of net i written over a table that has those of the nets before
+  pub pins_put : (i n k : ℕ) (table : List ℕ) → n ≡ length (pins_table bytes i) → k ≡ pin_count bytes (net_bit bytes i)
+      → put_mid n (n + k - n) (pins_table bytes i ++ drop n table) (net_pins bytes (net_bit bytes i) k) ≡ pins_table bytes (i + 1) ++ drop (n + k) table
+  pins_put i n k table e count =
+      let own = pins_table bytes i in
+      let added : n + k - n ≡ k = omega arith in
+      rw (take_at own (drop n table) n (sym e), drop_at own (drop n table) n (sym e), added, drop-drop k n table, pins_more i, ← count, append_assoc own (net_pins bytes (net_bit bytes i) k) (drop (n + k) table))
+
+  -- A net that is among the first nets, which the page holds: what the fill asks of it.
+  pub held : (nets : ℕ) → Holds bytes nets → (i at total : ℕ) → i < nets → at ≡ net_bit bytes i → total ≡ length (pins_table bytes i)
+      → (at < 2 ^ 30) × (net_end bytes at ≤ 8 * length bytes) × (total + pin_count bytes at ≤ length (pins_table bytes nets)) × (total + pin_count bytes at < 2 ^ 30)
+  held nets h i at total l at_is total_is =
+      let bit = bit_more i in
+      let count = count_more i in
+      let rises = bit_rises (i + 1) nets (omega arith) in
+      let fits = pins_fit nets in
+      let more = pins_rise (i + 1) nets (omega arith) in
+      rw (at_is, total_is) (omega arith, omega arith, omega arith, omega arith)

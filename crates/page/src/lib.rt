@@ -6,5 +6,6 @@ mod check;
 pub mod counts;
 mod fill;
 pub mod known;
+mod net;
 pub mod unpack;
 pub mod worked;

@@ -1,7 +1,7 @@
 -- Cells that are zeroed from the first on.
-use Rattle.std.proofs.Common.{◌≡◌, ℕ, zero, suc, ◌+◌, ◌-◌, ◌<◌, ◌≤◌, List, [], ◌∷◌, ◌++◌, length, get_or, drop, set, replicate, sym, refl, ap, ◌∙◌, subst, add-one, arith, drop-drop}
+use Rattle.std.proofs.Common.{◌≡◌, ℕ, zero, suc, ◌+◌, ◌-◌, ◌<◌, ◌≤◌, List, [], ◌∷◌, length, drop, set, sym, refl, ap, ◌∙◌, subst, add-one, arith, drop-drop}
 use Rattle.price.specs.Kind.{Kind}
-use Rattle.partition.specs.Pulls.{cleared, key_in}
+use Rattle.partition.specs.Pulls.{cleared}
 
 module _ {P : Type 0} (k : Kind P) where
   zeroed_next : (n : ℕ) (cells : List P) → n < length cells → set (cleared k n cells) n k.zero ≡ cleared k (suc n) cells
@@ -11,22 +11,6 @@ module _ {P : Type 0} (k : Kind P) where
 
   pub cleared_more : (n : ℕ) (cells now : List P) → n < length cells → now ≡ cleared k n cells → set now n k.zero ≡ cleared k (n + 1) cells
   cleared_more n cells now h e = ap (λ xs. set xs n k.zero) e ∙ zeroed_next n cells h ∙ ap (λ (i : ℕ). cleared k i cells) (sym (add-one n))
-
-  pub cleared_key : (n v : ℕ) (cells : List P) → v < n → key_in k (cleared k n cells) v ≡ k.zero
-  cleared_key n v cells h = front n v (drop n cells) h
-    where
-      front : (n v : ℕ) (ys : List P) → v < n → get_or (replicate n k.zero ++ ys) v k.zero ≡ k.zero
-      front zero v ys h = absurd (omega arith)
-      front (suc n) zero ys h = refl
-      front (suc n) (suc v) ys h = front n v ys (omega arith)
-
-  pub cleared_length : (n : ℕ) (cells now : List P) → n ≤ length cells → now ≡ cleared k n cells → length now ≡ length cells
-  cleared_length n cells now h e = ap length e ∙ long n cells h
-    where
-      long : (n : ℕ) (xs : List P) → n ≤ length xs → length (cleared k n xs) ≡ length xs
-      long zero xs h = refl
-      long (suc n) [] h = absurd (omega arith)
-      long (suc n) (x ∷ xs) h = ap suc (long n xs (omega arith))
 
   -- what lies past the zeroed cells
   pub cleared_later : (n m : ℕ) (cells now : List P) → n ≤ m → n ≤ length cells → now ≡ cleared k n cells → drop m now ≡ drop m cells

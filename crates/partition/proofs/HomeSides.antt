@@ -1,9 +1,9 @@
 -- From the modules' sides to the home modules' sides, and the answer of a split.
-use Rattle.std.proofs.Common.{◌≡◌, ℕ, zero, suc, ◌-◌, ◌^◌, ◌<◌, ◌≤◌, Bool, true, false, cond, ◌&&◌, eqb, ltb, List, [], ◌∷◌, length, Some, None, Ok, Err, Option, sym, refl, ap, ◌∙◌, subst, ⊎_elim, arith}
+use Rattle.std.proofs.Common.{◌≡◌, ◌++◌, drop, replicate, ap₂, ℕ, ◌-◌, ◌^◌, ◌<◌, ◌≤◌, Bool, true, false, cond, ◌&&◌, eqb, ltb, List, length, Some, None, Ok, Err, Option, MatchOption, sym, refl, ap, ◌∙◌, ⊎_elim, arith}
 use Rattle.std.specs.List.{slice_get, AllByRecursion}
 use Rattle.std.proofs.lemmas.Bool.{le-ltb, lt-ltb, cases_lt}
-use Rattle.refusal.specs.declared.Fault.{Fault}
-use Rattle.refusal.specs.declared.Fault.TheVariants.{TooShort, TooFewGroups}
+use Rattle.std.proofs.lemmas.Option.{get_or_from_slice_get}
+use Rattle.refusal.specs.declared.Fault.TheVariants.{TooFewGroups}
 use Rattle.moduleset.specs.Words.{digit, has as is_in}
 use Rattle.moduleset.proofs.Sets.{has_digit, same_sets}
 use Rattle.price.specs.Kind.{Kind, Laws}
@@ -22,18 +22,16 @@ use Rattle.cut.proofs.OverModules.{rounds_over_modules_lem}
 use Rattle.cut.proofs.SideBits.{sides_word_has_each_side_lem}
 use Rattle.partition.specs.Pulls.{cleared}
 use Rattle.partition.specs.Rounds.{by_set, FoundOver}
-use Rattle.partition.specs.Splits.{split_fault, told, SplitAnswer, SplitCall}
-use Rattle.grouping.proofs.OwnNets.{modules_few, unmarked_there}
+use Rattle.partition.specs.Splits.{told, SplitCall}
+use Rattle.grouping.proofs.Nth.{nth_past}
+use Rattle.grouping.proofs.OwnNets.{modules_few, modules_homes, unmarked_there}
+use Rattle.partition.proofs.Cells.{drop_further}
 
-pub nth_place : (row : List ℕ) (i p : ℕ) → Some p ≡ slice_get row i → place row i ≡ p
-nth_place [] i p e = absurd (let z : ◌≡◌ {A = ℕ} 0 1 = cc in omega arith)
-nth_place (x ∷ row) zero p e = cc
-nth_place (x ∷ row) (suc i) p e = nth_place row i p e
-
-pub nth_none : (row : List ℕ) (i : ℕ) → None ≡ slice_get row i → length row ≤ i
-nth_none [] i e = omega arith
-nth_none (x ∷ row) zero e = absurd (let z : ◌≡◌ {A = ℕ} 0 1 = cc in omega arith)
-nth_none (x ∷ row) (suc i) e = omega (arith, nth_none row i e)
+-- whether the place of a home module is in a set, by the place that is answered
+pub side_at : (row : List ℕ) (sides i : ℕ) (answer : Option ℕ) (r : Bool) (Q : ℕ → Type 0) → i < length row → answer ≡ slice_get row i → MatchOption answer (r ≡ false) Q
+    → ((p : ℕ) → Q p → r ≡ is_in sides p) → is_in sides (place row i) ≡ r
+side_at row sides i None r Q h e f q = absurd (omega (arith, h, nth_past row i e))
+side_at row sides i (Some p) r Q h e f q = ap (is_in sides) (get_or_from_slice_get row i p 0 (sym e)) ∙ sym (q p f)
 
 -- the sides word as a set
 module _ (n : ℕ) (side : ℕ → Bool) (few : n ≤ 64) where
@@ -68,23 +66,18 @@ module _ {P : Type 0} (k : Kind P) (l : Laws k) (row : List ℕ) (nets : List (N
     none_cheaper = λ side w. ap (λ x. k.less (split_price k side nets) x) price ∙ c.none_cheaper side w;
   }
 
-abbrev after_cells : {P : Type 0} → Meaning P → Option Fault
-after_cells m = cond (ltb (modules m) 2) (Some TooFewGroups) None
-
-cells_suffice : {P : Type 0} (m : Meaning P) (cells : ℕ) → homes m ≤ cells → split_fault m cells ≡ after_cells m
-cells_suffice m cells h = ap (λ x. cond x (Some (TooShort 1)) (after_cells m)) (le-ltb cells (homes m) h)
-
 module _ {P : Type 0} (k : Kind P) (l : Laws k) (m : Meaning P) (s : Sound m) (cells : List P) where
   pub few_groups : homes m ≤ length cells → modules m < 2 → SplitCall k m cells cells (Err TooFewGroups)
   few_groups h few =
-      subst (λ x. SplitAnswer x k m cells cells (Err TooFewGroups)) (sym (cells_suffice m (length cells) h ∙ ap (λ x. cond x (Some TooFewGroups) None) (lt-ltb (modules m) 2 few)))
+      rw (le-ltb (length cells) (homes m) h, lt-ltb (modules m) 2 few)
       (record { refused = refl; cells_stay = refl; none_lawful = λ e. ((split_is_cheapest_lem k l m s).fewer few).1 })
 
-  -- by the modules' set and the home modules' set
-  pub splitted : (count set word : ℕ) (p : P) (cells' : List P) → count ≡ modules m → 2 ≤ modules m → homes m ≤ length cells → FoundOver k (own_nets k m) count (by_set set p)
-      → word < 2 ^ 64 → ((i : ℕ) → i < 64 → is_in word i ≡ (ltb i (homes m) && is_in set (place m.places i))) → cells' ≡ cleared k (homes m) cells
-      → SplitCall k m cells cells' (Ok (record { sides = word; price = p }))
-  splitted count set word p cells' same two room over fits sides zeroed =
+  -- by the modules' set and the home modules' set, and the zeros before what stays
+  pub splitted : (count h set word : ℕ) (p : P) (zeros after : List P) → count ≡ modules m → h ≡ homes m → 2 ≤ count → h ≤ length cells
+      → FoundOver k (own_nets k m) count (by_set set p) → word < 2 ^ 64 → ((i : ℕ) → i < 64 → is_in word i ≡ (ltb i (homes m) && is_in set (place m.places i)))
+      → zeros ≡ replicate h k.zero → drop count after ≡ drop count cells
+      → SplitCall k m cells (zeros ++ drop h after) (Ok (record { sides = word; price = p }))
+  splitted count h set word p zeros after same same_homes two room over fits sides zeroed later =
       let n : ℕ = modules m - 2 in
       let out = (split_is_cheapest_lem k l m s).two_modules (omega arith) in
       let split : Split P = out.0 in
@@ -97,8 +90,7 @@ module _ {P : Type 0} (k : Kind P) (l : Laws k) (m : Meaning P) (s : Sound m) (c
       let bits : (i : ℕ) → i < 64 → is_in word i ≡ (ltb i (homes m) && split.side i) =
       λ i h. sides i h ∙ within (λ j. is_in set (place m.places j)) split.side home_side i in
       let price_is : p ≡ split.price = over.same.same_price ∙ sym by.same_price in
-      subst (λ x. SplitAnswer x k m cells cells' (Ok (record { sides = word; price = p })))
-      (sym (cells_suffice m (length cells) room ∙ ap (λ x. cond x (Some TooFewGroups) None) (le-ltb (modules m) 2 two)))
+      rw (le-ltb (length cells) (homes m) (omega (arith, room, same_homes)), le-ltb (modules m) 2 (omega (arith, two, same)))
       (record {
         split = split;
         by_rounds = out.1;
@@ -110,7 +102,8 @@ module _ {P : Type 0} (k : Kind P) (l : Laws k) (m : Meaning P) (s : Sound m) (c
         cheapest = cheapest_like k l m.places (unmuted m) (unmarked_there (AllByRecursion (λ pin. pin < homes m)) m.nets m.muted s.pins_there) split
             (told (record { sides = word; price = p })) price_is
             (λ i h. bits i (omega (arith, s.few_homes)) ∙ ap (λ b. b && split.side i) (lt-ltb i (homes m) h)) out.2.cheapest;
-        zeroed = zeroed;
+        zeroed = ap₂ (λ xs ys. xs ++ ys) zeroed (drop_further count h after cells (omega (arith, modules_homes m s, same, same_homes)) later)
+            ∙ ap (λ (n : ℕ). cleared k n cells) same_homes;
       })
     where
       within : (f g : ℕ → Bool) → ((i : ℕ) → i < homes m → f i ≡ g i) → (i : ℕ) → (ltb i (homes m) && f i) ≡ (ltb i (homes m) && g i)

@@ -1,12 +1,11 @@
 -- The greatest key of those that wait, found one module after another.
-use Rattle.std.proofs.Common.{◌≡◌, ℕ, ◌+◌, ◌<◌, Bool, true, false, cond, not, ◌&&◌, leb, List, [], ◌∷◌, length, get_or, Some, None, sym, refl, ap, ◌∙◌, ⊎_elim, arith}
+use Rattle.std.proofs.Common.{◌≡◌, ℕ, ◌+◌, ◌<◌, Bool, true, false, not, ◌&&◌, leb, List, [], ◌∷◌, length, get_or, Some, None, sym, refl, ap, ◌∙◌, ⊎_elim, arith}
 use Rattle.std.specs.List.{slice_get}
 use Rattle.std.proofs.lemmas.Bool.{cases_lt, cases_Bool, both_ways, not-true, le-leb}
 use Rattle.moduleset.specs.Words.{has as is_in, members}
 use Rattle.moduleset.proofs.Sets.{Lowest}
 use Rattle.moduleset.proofs.Members.{lowest_nth, has_member}
 use Rattle.price.specs.Kind.{Kind, Laws}
-use Rattle.cut.proofs.Totals.{less_le}
 use Rattle.partition.specs.Pulls.{Greatest}
 
 module _ {P : Type 0} (k : Kind P) (l : Laws k) (key : ℕ → P) (taken : ℕ) where
@@ -19,47 +18,6 @@ module _ {P : Type 0} (k : Kind P) (l : Laws k) (key : ℕ → P) (taken : ℕ) 
     lower_less = λ w b o. absurd (both_ways _ o (before w b));
   }
 
-  pub greatest_skip : (n v : ℕ) → Greatest k key taken n v → is_in taken n ≡ true → Greatest k key taken (n + 1) v
-  greatest_skip n v g h = record {
-    below = omega (arith, g.below);
-    waits = g.waits;
-    none_greater = λ w b o.
-        ⊎_elim (λ q. g.none_greater w q o) (λ q. (let e : w ≡ n = omega arith in absurd (both_ways _ o (ap (is_in taken) e ∙ h)))) (cases_lt w n);
-    lower_less = g.lower_less;
-  }
-
-  greatest_keep : (n v : ℕ) → Greatest k key taken n v → k.less (key v) (key n) ≡ false → Greatest k key taken (n + 1) v
-  greatest_keep n v g h = record {
-    below = omega (arith, g.below);
-    waits = g.waits;
-    none_greater = λ w b o. ⊎_elim (λ q. g.none_greater w q o) (λ q. (let e : w ≡ n = omega arith in ap (λ x. k.less (key v) (key x)) e ∙ h)) (cases_lt w n);
-    lower_less = g.lower_less;
-  }
-
-  greatest_take : (n v : ℕ) → Greatest k key taken n v → is_in taken n ≡ false → k.less (key v) (key n) ≡ true → Greatest k key taken (n + 1) n
-  greatest_take n v g o h =
-      let lower : (w : ℕ) → w < n → is_in taken w ≡ false → k.less (key w) (key n) ≡ true =
-      λ w b u.
-      ⊎_elim
-      (λ up. l.transitive (key w) (key v) (key n) up h)
-      (λ up. ap (λ x. k.less x (key n)) (l.connected (key w) (key v) up (g.none_greater w b u)) ∙ h)
-      (cases_Bool (k.less (key w) (key v))) in
-      record {
-        below = omega arith;
-        waits = o;
-        none_greater = λ w b u.
-            ⊎_elim (λ q. less_le k l (key w) (key n) (lower w q u)) (λ q. (let e : w ≡ n = omega arith in ap (λ x. k.less (key n) (key x)) e ∙ l.irreflexive (key n))) (cases_lt w n);
-        lower_less = lower;
-      }
-
-  -- one more that waits
-  pub greatest_next : (n v : ℕ) → Greatest k key taken n v → is_in taken n ≡ false → Greatest k key taken (n + 1) (cond (k.less (key v) (key n)) n v)
-  greatest_next n v g o = go (k.less (key v) (key n)) refl
-    where
-      go : (b : Bool) → k.less (key v) (key n) ≡ b → Greatest k key taken (n + 1) (cond b n v)
-      go true e = greatest_take n v g o e
-      go false e = greatest_keep n v g e
-
 pub all_but : (all taken rest : ℕ) → ((v : ℕ) → v < 64 → is_in all v ≡ leb 0 v) → ((v : ℕ) → is_in rest v ≡ (is_in all v && not (is_in taken v)))
     → (v : ℕ) → v < 64 → is_in rest v ≡ not (is_in taken v)
 all_but all taken rest e f v h = f v ∙ ap (λ b. b && not (is_in taken v)) (e v h ∙ le-leb 0 v (omega arith))
@@ -70,7 +28,7 @@ module _ (taken rest : ℕ) (waiting : (v : ℕ) → v < 64 → is_in rest v ≡
     where
       empty : (xs : List ℕ) → None ≡ slice_get xs 0 → (i : ℕ) × (i < length xs) × (get_or xs i 0 ≡ v) → ⊥
       empty [] e r = omega (arith, r.1)
-      empty (x ∷ xs) e r = let z : ◌≡◌ {A = ℕ} 0 1 = cc in omega arith
+      empty (x ∷ xs) e r = cc
 
   pub first_waits : (v : ℕ) → Some v ≡ slice_get (members rest) 0 → (v < 64) × (is_in taken v ≡ false) × ((w : ℕ) → w < v → is_in taken w ≡ true)
   first_waits v e =

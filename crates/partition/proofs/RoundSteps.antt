@@ -1,8 +1,8 @@
 -- What a round notes and leaves, and what the rounds' loop keeps.
-use Rattle.std.proofs.Common.{◌≡◌, ℕ, suc, ◌+◌, ◌-◌, ◌<◌, ◌≤◌, Bool, true, false, cond, List, [], ◌∷◌, ◌++◌, length, get_or, Some, sym, refl, ap, ◌∙◌, subst, ap₂, ⊎_elim, arith}
+use Rattle.std.proofs.Common.{◌≡◌, ℕ, suc, ◌-◌, ◌<◌, ◌≤◌, Bool, true, false, cond, List, [], ◌∷◌, length, get_or, Some, sym, refl, ap, ◌∙◌, subst, ap₂, ⊎_elim, arith}
 use native.Mathlib.Nat.{suc_inj}
 use lib.ListN.{length-map}
-use Rattle.std.proofs.lemmas.List.{get_or_append_left, get_or_past}
+use Rattle.std.proofs.lemmas.List.{get_or_past}
 use Rattle.std.proofs.lemmas.Bool.{cases_lt}
 use Rattle.std.proofs.lemmas.Bool.Decides.{nat_tests}
 use Rattle.moduleset.specs.Words.{has as is_in}
@@ -10,7 +10,7 @@ use Rattle.price.specs.Kind.{Kind, Laws}
 use Rattle.netlist.specs.Nets.{Net}
 use Rattle.netlist.specs.Places.{place, placed}
 use Rattle.netlist.specs.Meaning.{Meaning, own_nets}
-use Rattle.netlist.specs.Changes.{united_place_lem, united}
+use Rattle.netlist.specs.Changes.{united_place, united}
 use Rattle.netlist.proofs.Numbering.{place_map}
 use Rattle.netlist.proofs.UnitedPlaces.{united_below}
 use Rattle.cut.specs.Cuts.{split_price, alone}
@@ -22,6 +22,7 @@ use Rattle.cut.proofs.OrderFound.{order_is, length_order}
 use Rattle.cut.proofs.OrderSteps.{last_at}
 use Rattle.cut.proofs.LastTwo.{TwoApart, order_two_apart}
 use Rattle.grouping.specs.Masks.{grouped}
+use Rattle.partition.specs.Pulls.{cleared}
 use Rattle.partition.specs.Rounds.{by_set, SameSplit, GroupRow, EachAlone, round_noted, round_row, FoundOver}
 
 next_to_last_in : (before : List ℕ) (u v : ℕ) (rest : List ℕ) → (ending_after before u v rest).next_to_last ≡ get_or (u ∷ v ∷ rest) (length rest) 0
@@ -33,48 +34,51 @@ next_to_last_at n [] e = absurd (omega arith)
 next_to_last_at n (u ∷ []) e = absurd (omega arith)
 next_to_last_at n (u ∷ v ∷ vs) e = next_to_last_in [] u v vs ∙ ap (λ z. get_or (u ∷ v ∷ vs) z 0) (suc_inj (suc_inj e))
 
--- the last two of the bytes that begin with a list
-module _ (list rest bytes : List ℕ) (count : ℕ) (e : length list ≡ count) (two : 1 < count) (f : bytes ≡ list ++ rest) where
-  byte_in : (i : ℕ) → i < count → get_or bytes i 0 ≡ get_or list i 0
-  byte_in i h = ap (λ xs. get_or xs i 0) f ∙ get_or_append_left list rest 0 i (omega arith)
-
-  pub last_byte : get_or bytes (count - 1) 0 ≡ (ending list).last
-  last_byte =
-      let at : count - 1 ≡ suc (count - 2) = omega arith in
-      byte_in (count - 1) (omega arith) ∙ ap (λ (x : ℕ). get_or list x 0) at ∙ sym (last_at (count - 2) list (omega arith))
-
-  pub next_to_last_byte : get_or bytes (count - 2) 0 ≡ (ending list).next_to_last
-  next_to_last_byte = byte_in (count - 2) (omega arith) ∙ sym (next_to_last_at (count - 2) list (omega arith))
-
-module _ {P : Type 0} (k : Kind P) (l : Laws k) (m : Meaning P) (row row' bytes rest : List ℕ) (count : ℕ) (same_row : row' ≡ row) (two : 1 < count)
-    (written : bytes ≡ order k (grouped k m row') count ++ rest) where
-  ending_is : ending (order k (grouped k m row') count) ≡ counted_ending k (own_nets k m) count row
+-- the last two of the bytes that are the order of a round's groups
+module _ {P : Type 0} (k : Kind P) (l : Laws k) (m : Meaning P) (row bytes : List ℕ) (count : ℕ) (two : 1 < count) (written : bytes ≡ order k (grouped k m row) count) where
+  ending_is : ending bytes ≡ counted_ending k (own_nets k m) count row
   unfolding grouped
-  ending_is = ap (λ xs. ending (order k (placed xs (own_nets k m)) count)) same_row
+  ending_is = ap ending written
 
-  last_is : get_or bytes (count - 1) 0 ≡ (counted_ending k (own_nets k m) count row).last
-  last_is = last_byte (order k (grouped k m row') count) rest bytes count (length_order k l (grouped k m row') count) two written ∙ ap (λ z. z.last) ending_is
+  long : length bytes ≡ count
+  long = ap length written ∙ length_order k l (grouped k m row) count
 
-  next_to_last_is : get_or bytes (count - 2) 0 ≡ (counted_ending k (own_nets k m) count row).next_to_last
-  next_to_last_is =
-      next_to_last_byte (order k (grouped k m row') count) rest bytes count (length_order k l (grouped k m row') count) two written ∙ ap (λ z. z.next_to_last) ending_is
+  last_is : get_or bytes (length bytes - 1) 0 ≡ (counted_ending k (own_nets k m) count row).last
+  last_is =
+      let at : length bytes - 1 ≡ suc (count - 2) = omega (arith, long) in
+      ap (λ (x : ℕ). get_or bytes x 0) at ∙ sym (last_at (count - 2) bytes (omega (arith, long))) ∙ ap (λ z. z.last) ending_is
 
-  price_is : split_price k (alone (ending (order k (grouped k m row') count)).last) (grouped k m row')
-      ≡ split_price k (alone (counted_ending k (own_nets k m) count row).last) (placed row (own_nets k m))
+  next_to_last_is : get_or bytes (length bytes - 2) 0 ≡ (counted_ending k (own_nets k m) count row).next_to_last
+  next_to_last_is = sym (next_to_last_at (length bytes - 2) bytes (omega (arith, long))) ∙ ap (λ z. z.next_to_last) ending_is
+
+  price_is : split_price k (alone (ending bytes).last) (grouped k m row) ≡ (round_noted k (own_nets k m) count row).price
   unfolding grouped
-  price_is = ap (λ xs. split_price k (alone (ending (order k (placed xs (own_nets k m)) count)).last) (placed xs (own_nets k m))) same_row
+  price_is = ap (λ z. split_price k (alone z.last) (placed row (own_nets k m))) ending_is
 
-  pub noted_is : (p : P) (set : ℕ) → p ≡ split_price k (alone (ending (order k (grouped k m row') count)).last) (grouped k m row')
-      → ((v : ℕ) → v < 64 → is_in set v ≡ alone (get_or bytes (count - 1) 0) (place row v)) → SameSplit (by_set set p) (round_noted k (own_nets k m) count row)
-  noted_is p set priced sides = record {
+  pub noted_is : (set : ℕ) (p : P) → p ≡ split_price k (alone (ending bytes).last) (grouped k m row)
+      → ((v : ℕ) → v < 64 → is_in set v ≡ alone (get_or bytes (length bytes - 1) 0) (place row v)) → SameSplit (by_set set p) (round_noted k (own_nets k m) count row)
+  noted_is set p priced sides = record {
     same_price = priced ∙ price_is;
     same_sides = λ v h. sides v h ∙ ap (λ (x : ℕ). alone x (place row v)) last_is;
   }
 
-  pub next_is : (next : List ℕ) → next ≡ united (get_or bytes (count - 2) 0) (get_or bytes (count - 1) 0) row → next ≡ round_row k (own_nets k m) count row
+  pub next_is : (next : List ℕ) → next ≡ united (get_or bytes (length bytes - 2) 0) (get_or bytes (length bytes - 1) 0) row → next ≡ round_row k (own_nets k m) count row
   next_is next e = e ∙ ap₂ (λ (x : ℕ) (y : ℕ). united x y row) next_to_last_is last_is
 
-united_small : (a b p : ℕ) → a < 64 → b < 64 → p < 64 → united_place_lem a b p < 64
+-- what a round over g groups leaves: what it notes, the next row and the cells
+abbrev pub Ended : {P : Type 0} → Kind P → List (Net P) → ℕ → List ℕ → Split P → List ℕ → List P → List P → Type 0
+Ended k nets g row noted next cells cells' = SameSplit noted (round_noted k nets g row) × (next ≡ round_row k nets g row) × (cells' ≡ cleared k g cells)
+
+-- what holds of the round that is made holds of what it was asked to be
+pub as_asked : {N : Type 0} (T : N → ℕ → List ℕ → Type 0) {n n' : N} {g g' : ℕ} {row row' : List ℕ} → n ≡ n' → g ≡ g' → row ≡ row' → T n g row → T n' g' row'
+as_asked T {n' = n'} {g = g} {g' = g'} {row = row} e f h t = subst (T n' g') h (subst (λ (x : ℕ). T n' x row) f (subst (λ x. T x g row) e t))
+
+-- each module alone is a group of its own
+pub alone_row : (m count : ℕ) (row : List ℕ) → m ≤ 64 → count ≡ m → length row ≡ 64 → ((v : ℕ) → place row v < 64) → ((v : ℕ) → v < 64 → place row v ≡ v) → GroupRow m count row
+alone_row m count row few e long small own =
+    record { long = long; small = small; below = λ v h. subst (λ (x : ℕ). x < count) (sym (own v (omega arith))) (omega arith) }
+
+united_small : (a b p : ℕ) → a < 64 → b < 64 → p < 64 → united_place a b p < 64
 united_small a b p h i j = grind (arith, nat_tests)
 
 -- the row after a round over one group more
@@ -85,8 +89,8 @@ row_after k l nets m g left row next two few mm e r f =
     let a : ℕ = end.next_to_last in
     let b : ℕ = end.last in
     let d : TwoApart g end = order_two_apart k (placed row nets) g two (order k (placed row nets) g) (order_is k l (placed row nets) g) in
-    let long : length (united a b row) ≡ 64 = length-map row (united_place_lem a b) ∙ r.long in
-    let at : (v : ℕ) → v < 64 → place (united a b row) v ≡ united_place_lem a b (place row v) = λ v h. place_map (united_place_lem a b) row v (omega (arith, r.long)) in
+    let long : length (united a b row) ≡ 64 = length-map row (united_place a b) ∙ r.long in
+    let at : (v : ℕ) → v < 64 → place (united a b row) v ≡ united_place a b (place row v) = λ v h. place_map (united_place a b) row v (omega (arith, r.long)) in
     subst (GroupRow m left) (sym f) (record {
       long = long;
       small = λ v.
@@ -100,26 +104,28 @@ row_after k l nets m g left row next two few mm e r f =
     })
 
 module _ {P : Type 0} (k : Kind P) (nets : List (Net P)) where
-  -- The best so far is that of the rounds done, and with those to come it is the split that all rounds find.
-  pub record Kept (count i : ℕ) (best : Split P) (row : List ℕ) : Type 0 where
+  -- The best so far is that of the rounds done, and with those to come, over fewer than g groups, it is the split that all rounds find.
+  pub record Kept (count g : ℕ) (best : Split P) (row : List ℕ) : Type 0 where
     pub start : List ℕ
     pub start_alone : EachAlone start
     pub ideal : Split P
     pub same : SameSplit best ideal
-    pub rest : (n j : ℕ) → suc (suc n) ≡ count → j + i ≡ count → cheapest_of k (counted k nets (suc n) start) ≡ Some (cheapest_after k ideal (counted k nets j row))
+    pub several : 1 < g
+    pub rest : (n j : ℕ) → suc (suc n) ≡ count → suc (suc j) ≡ g → cheapest_of k (counted k nets (suc n) start) ≡ Some (cheapest_after k ideal (counted k nets j row))
 
   first_counted : (n : ℕ) (start : List ℕ)
       → cheapest_of k (counted k nets (suc n) start) ≡ Some (cheapest_after k (round_noted k nets (suc (suc n)) start) (counted k nets n (round_row k nets (suc (suc n)) start)))
   unfolding counted
   first_counted n start = refl
 
-  pub kept_start : (count : ℕ) (start next : List ℕ) (best : Split P) → EachAlone start → SameSplit best (round_noted k nets count start) → next ≡ round_row k nets count start
-      → Kept count 2 best next
-  kept_start count start next best alone s e = record {
+  pub kept_start : (count : ℕ) (start next : List ℕ) (best : Split P) → 1 < count → EachAlone start → SameSplit best (round_noted k nets count start) → next ≡ round_row k nets count start
+      → Kept count count best next
+  kept_start count start next best two alone s e = record {
     start = start;
     start_alone = alone;
     ideal = round_noted k nets count start;
     same = s;
+    several = two;
     rest = λ n j q w.
         let same_count : j ≡ n = omega arith in
         first_counted n start ∙ ap₂ (λ (c : ℕ) (i : ℕ). Some (cheapest_after k (round_noted k nets c start) (counted k nets i (round_row k nets c start)))) q (sym same_count)
@@ -138,17 +144,17 @@ module _ {P : Type 0} (k : Kind P) (nets : List (Net P)) where
   unfolding counted
   next_counted x j row = refl
 
-  pub kept_more : (count i g : ℕ) (best noted new : Split P) (row next : List ℕ) → i < count → g + i ≡ suc count → Kept count i best row
-      → SameSplit noted (round_noted k nets g row) → next ≡ round_row k nets g row → new ≡ cheaper k best noted → Kept count (i + 1) new next
-  kept_more count i g best noted new row next h q a s e c = record {
+  pub kept_more : (count bound g : ℕ) (best noted new : Split P) (row next : List ℕ) → suc g ≡ bound → 1 < g → Kept count bound best row → SameSplit noted (round_noted k nets g row)
+      → next ≡ round_row k nets g row → new ≡ cheaper k best noted → Kept count g new next
+  kept_more count bound g best noted new row next b two a s e c = record {
     start = a.start;
     start_alone = a.start_alone;
     ideal = cheaper k a.ideal (round_noted k nets g row);
     same = subst (λ x. SameSplit x (cheaper k a.ideal (round_noted k nets g row))) (sym c) (cheaper_same best a.ideal noted (round_noted k nets g row) a.same s);
+    several = two;
     rest = λ n j w z.
-        let groups : suc (suc j) ≡ g = omega arith in
         a.rest n (suc j) w (omega arith) ∙ ap Some (next_counted a.ideal j row)
-        ∙ ap (λ (x : ℕ). Some (cheapest_after k (cheaper k a.ideal (round_noted k nets x row)) (counted k nets j (round_row k nets x row)))) groups
+        ∙ ap (λ (x : ℕ). Some (cheapest_after k (cheaper k a.ideal (round_noted k nets x row)) (counted k nets j (round_row k nets x row)))) z
         ∙ ap (λ xs. Some (cheapest_after k (cheaper k a.ideal (round_noted k nets g row)) (counted k nets j xs))) (sym e);
   }
 
@@ -156,11 +162,11 @@ module _ {P : Type 0} (k : Kind P) (nets : List (Net P)) where
   unfolding counted
   none_counted x row = refl
 
-  pub kept_end : (count i : ℕ) (best : Split P) (row : List ℕ) → i ≡ count → Kept count i best row → FoundOver k nets count best
-  kept_end count i best row e a = record {
+  pub kept_end : (count g : ℕ) (best : Split P) (row : List ℕ) → g ≤ 2 → Kept count g best row → FoundOver k nets count best
+  kept_end count g best row h a = record {
     row = a.start;
     alone = a.start_alone;
     by_modules = a.ideal;
-    found = λ n q. a.rest n 0 q (omega arith) ∙ ap Some (none_counted a.ideal row);
+    found = λ n q. a.rest n 0 q (omega (arith, h, a.several)) ∙ ap Some (none_counted a.ideal row);
     same = a.same;
   }

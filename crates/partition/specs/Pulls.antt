@@ -38,17 +38,9 @@ abbrev pub NetJoined : {P : Type 0} → Kind P → ℕ → List ℕ → P → Li
 NetJoined k taken pins price cells cells' =
     (v : ℕ) → is_in taken v ≡ false → key_in k cells' v ≡ cond (pulls v (is_in taken) pins) (k.join (key_in k cells v) price) (key_in k cells v)
 
--- past the waiting modules the cells are as they were
-abbrev pub LaterStay : {P : Type 0} → ℕ → List P → List P → Type 0
-LaterStay taken cells cells' = (m : ℕ) → WaitBelow taken m → drop m cells' ≡ drop m cells
-
 -- each waiting module's key is its pull toward those taken
 abbrev pub KeysArePulls : {P : Type 0} → Kind P → List (Net P) → ℕ → List P → Type 0
 KeysArePulls k nets taken cells = (v : ℕ) → v < 64 → is_in taken v ≡ false → key_in k cells v ≡ pulled k nets taken v
-
--- each waiting module's key is zero
-abbrev pub KeysAreZero : {P : Type 0} → Kind P → ℕ → List P → Type 0
-KeysAreZero k taken cells = (v : ℕ) → v < 64 → is_in taken v ≡ false → key_in k cells v ≡ k.zero
 
 -- The answer is the waiting module of the greatest key, and is taken; where there is none, no module waits.
 abbrev pub TakesGreatest : {P : Type 0} → Kind P → (ℕ → P) → ℕ → ℕ → Option ℕ → Type 0

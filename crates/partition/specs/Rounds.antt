@@ -8,10 +8,15 @@ use Rattle.netlist.specs.Changes.{united}
 use Rattle.cut.specs.Lawful.{Split}
 use Rattle.cut.specs.Rounds.{parting, cheapest_of}
 use Rattle.cut.specs.ModuleRounds.{counted_ending, counted}
+use Rattle.partition.specs.declared.round.Noted.{Noted}
 
 -- the split with a set of modules on side B
 abbrev pub by_set : {P : Type 0} → ℕ → P → Split P
 by_set sides price = record { side = λ v. is_in sides v; price = price }
+
+-- the split that a round notes
+abbrev pub by_noted : {P : Type 0} → Noted P → Split P
+by_noted noted = by_set noted.sides.word noted.price
 
 -- The same price, and the same side of each module below 64.
 pub record SameSplit {P : Type 0} (a b : Split P) : Type 0 where

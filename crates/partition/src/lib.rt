@@ -3,6 +3,6 @@
 
 pub mod ordering;
 mod pull_row;
+mod round;
 mod rounds;
 pub mod splitting;
-mod steps;

@@ -1,12 +1,11 @@
 //! The order of a netlist's modules.
 ghost use Rattle.partition.specs.Orders.{OrderCall, LastTwoParted};
 
-use crate::steps::order_groups;
-use grouping::masks::gather;
-use grouping::rows::singles;
+use crate::round::Round;
 use netlist::Netlist;
 use price::Price;
 use refusal::Fault;
+use rows::singles;
 
 /// Writes the order of the modules into the first bytes, and answers the price of parting off the last alone:
 /// no split that parts the last two is cheaper. Leaves as many first cells as modules zero, and later cells and bytes as they were.
@@ -31,6 +30,6 @@ pub fn order<N: Netlist>(
     if count < 2 {
         return Err(Fault::TooFewGroups);
     }
-    let masks = gather(netlist, singles());
-    Ok(order_groups(netlist, cells, bytes, &masks, count as u8))
+    let round = Round::new(netlist, singles(), count as u8);
+    Ok(round.order(&mut cells[..count], &mut bytes[..count]))
 }

@@ -1,46 +1,65 @@
 //! The pull row: a key for each module in the cells handed in, and which modules are taken.
-ghost use Rattle.std.specs.Prelude.{◌≡◌, ℕ, ◌<◌, ◌≤◌, true, length, if◌then◌else◌, MatchOption, slice_set};
+ghost use Rattle.std.specs.Prelude.{◌≡◌, ℕ, ◌<◌, true, List, length, replicate, if◌then◌else◌, MatchOption};
 ghost use Rattle.moduleset.specs.Words.{has as is_in};
-ghost use Rattle.partition.specs.Pulls.{cleared, WaitBelow, Greatest, TakesGreatest, key_in};
+ghost use Rattle.grouping.specs.Masks.{SetOf};
+ghost use Rattle.partition.specs.Pulls.{WaitBelow, Greatest, TakesGreatest, NetJoined, key_in};
 
+use grouping::masks::pulled_at;
 use moduleset::ModuleSet;
 use price::Price;
 
-/// The pulls of one step of an order.
+/// The pulls of one step of an order. Each module that waits has a cell.
 #[derive(Drop)]
 pub(crate) struct PullRow<'a, P> {
     pub(crate) cells: &'a mut [P],
     pub(crate) taken: ModuleSet,
+    ghost room: { WaitBelow taken.word (length cells.now) },
 }
 
 impl<'a, P: Price> PullRow<'a, P> {
-    pub(crate) fn new(cells: &'a mut [P], taken: ModuleSet) -> PullRow<'a, P>
-        ensures taken { result.taken ≡ taken }
-        ensures cells { result.cells.now ≡ cells.old }
-        ensures same { result.cells.ghost_name ≡ cells.entry.ghost_name }
-    {
-        PullRow { cells, taken }
-    }
-
-    /// Zero in the first `count` cells; later ones stay.
-    pub(crate) fn clear(&mut self, count: usize)
-        requires { count ≤ length self.old.cells.now }
-        ensures cells { self.new.cells.now ≡ cleared P.kind count self.old.cells.now }
-        ensures same { self.new.cells.ghost_name ≡ self.old.cells.ghost_name }
+    /// Joins a net's price onto the key of the module at which the net pulls.
+    pub(crate) fn join(&mut self, net: ModuleSet, price: P)
+        ensures joined { (pins : List ℕ) → SetOf net.word pins → NetJoined P.kind self.old.taken.word pins price self.old.cells.now self.new.cells.now }
+        ensures long { length self.new.cells.now ≡ length self.old.cells.now }
         ensures taken { self.new.taken ≡ self.old.taken }
     {
-        clear(&mut *self.cells, count);
+        if let Some(v) = pulled_at(net, self.taken) {
+            let key = self.cells[v as usize];
+            self.cells[v as usize] = key.join(price);
+        }
     }
 
-    /// Joins a price onto the key of a module.
-    pub(crate) fn join_onto(&mut self, v: u8, price: P)
-        requires { v < length self.old.cells.now }
-        ensures cells { self.new.cells.now ≡ slice_set self.old.cells.now v (P.kind.join (key_in P.kind self.old.cells.now v) price) }
-        ensures same { self.new.cells.ghost_name ≡ self.old.cells.ghost_name }
-        ensures taken { self.new.taken ≡ self.old.taken }
+    /// Takes the waiting module with the greatest key, the lowest on equal keys.
+    pub(crate) fn take_greatest(&mut self) -> Option<u8>
+        ensures took { TakesGreatest P.kind (key_in P.kind self.old.cells.now) self.old.taken.word self.new.taken.word result }
+        ensures cells { self.new.cells.now ≡ self.old.cells.now }
     {
-        let key = self.cells[v as usize];
-        self.cells[v as usize] = key.join(price);
+        let v = self.greatest_waiting()?;
+        self.taken = self.taken.with(v);
+        Some(v)
+    }
+
+    /// The waiting module with the greatest key, the lowest on equal keys.
+    fn greatest_waiting(&self) -> Option<u8>
+        ensures { MatchOption result ((v : ℕ) → v < 64 → is_in self.now.taken.word v ≡ true) (λ v. Greatest P.kind (key_in P.kind self.now.cells.now) self.now.taken.word 64 v) }
+    {
+        let mut best = ModuleSet::at_or_past(0).minus(self.taken).lowest()?;
+        // A chain of `filter` and `reduce`: tried, and what `reduce` answers was not proved.
+        for v in best + 1..64 {
+            if !self.taken.has(v) {
+                best = self.greater_of(best, v);
+            }
+        }
+        Some(best)
+    }
+
+    /// Of two modules the one with the greater key, the first on equal keys.
+    fn greater_of(&self, v: u8, w: u8) -> u8
+        requires first { v < length self.now.cells.now }
+        requires second { w < length self.now.cells.now }
+        ensures { result ≡ (if P.kind.less (key_in P.kind self.now.cells.now v) (key_in P.kind self.now.cells.now w) then w else v) }
+    {
+        if self.key(v).less(self.key(w)) { w } else { v }
     }
 
     /// The key of a module.
@@ -48,78 +67,16 @@ impl<'a, P: Price> PullRow<'a, P> {
         requires { v < length self.now.cells.now }
         ensures { result ≡ key_in P.kind self.now.cells.now v }
     {
-        key_of(&*self.cells, v)
-    }
-
-    /// The waiting module with the greatest key, the lowest on equal keys.
-    fn greatest_waiting(&self) -> Option<u8>
-        requires { WaitBelow self.now.taken.word (length self.now.cells.now) }
-        ensures { MatchOption result ((v : ℕ) → v < 64 → is_in self.now.taken.word v ≡ true) (λ v. Greatest P.kind (key_in P.kind self.now.cells.now) self.now.taken.word 64 v) }
-    {
-        let taken = self.taken;
-        greatest(&*self.cells, taken)
-    }
-
-    /// Takes the waiting module with the greatest key, the lowest on equal keys.
-    pub(crate) fn take_greatest(&mut self) -> Option<u8>
-        requires { WaitBelow self.old.taken.word (length self.old.cells.now) }
-        ensures took { TakesGreatest P.kind (key_in P.kind self.old.cells.now) self.old.taken.word self.new.taken.word result }
-        ensures cells { self.new.cells.now ≡ self.old.cells.now }
-        ensures same { self.new.cells.ghost_name ≡ self.old.cells.ghost_name }
-    {
-        let Some(v) = self.greatest_waiting() else {
-            return None;
-        };
-        let taken = self.taken;
-        self.taken = taken.with(v);
-        Some(v)
+        self.cells[v as usize]
     }
 }
 
-/// Zero in the first `count` cells; later ones stay.
-pub(crate) fn clear<P: Price>(cells: &mut [P], count: usize)
-    requires { count ≤ length cells.old }
-    ensures { cells.new ≡ cleared P.kind count cells.old }
+/// Makes every cell zero.
+pub(crate) fn clear<P: Price>(cells: &mut [P])
+    ensures { cells.new ≡ replicate (length cells.old) P.kind.zero }
 {
-    for i in 0..count {
-        cells[i] = P::zero();
+    // `fill`: tried, and it asks that a clone cannot fail, which a price kind does not promise.
+    for cell in cells.iter_mut() {
+        *cell = P::zero();
     }
-}
-
-/// Of the modules that are not taken the one with the greatest key, the lowest on equal keys.
-fn greatest<P: Price>(cells: &[P], taken: ModuleSet) -> Option<u8>
-    requires { WaitBelow taken.word (length cells.now) }
-    ensures { MatchOption result ((v : ℕ) → v < 64 → is_in taken.word v ≡ true) (λ v. Greatest P.kind (key_in P.kind cells.now) taken.word 64 v) }
-{
-    let Some(first) = ModuleSet::at_or_past(0).minus(taken).lowest() else {
-        return None;
-    };
-    let mut best = first;
-    for v in first + 1..64 {
-        if !taken.has(v) {
-            best = greater_of(cells, best, v);
-        }
-    }
-    Some(best)
-}
-
-/// Of two modules the one with the greater key, the first on equal keys.
-fn greater_of<P: Price>(cells: &[P], v: u8, w: u8) -> u8
-    requires first { v < length cells.now }
-    requires second { w < length cells.now }
-    ensures { result ≡ (if P.kind.less (key_in P.kind cells.now v) (key_in P.kind cells.now w) then w else v) }
-{
-    if key_of(cells, v).less(key_of(cells, w)) {
-        w
-    } else {
-        v
-    }
-}
-
-/// The key of a module.
-fn key_of<P: Price>(cells: &[P], v: u8) -> P
-    requires { v < length cells.now }
-    ensures { result ≡ key_in P.kind cells.now v }
-{
-    cells[v as usize]
 }

@@ -29,7 +29,7 @@ pub fn split<N: Netlist>(netlist: &N, cells: &mut [N::Price]) -> Result<FoundSpl
         return Err(Fault::TooFewGroups);
     }
     let found = split_modules(netlist, cells, count as u8);
-    clear(cells, homes);
+    clear(&mut cells[..homes]);
     Ok(FoundSplit {
         sides: home_set(netlist, found.sides).word,
         price: found.price,
@@ -42,10 +42,7 @@ fn home_set<N: Netlist>(netlist: &N, sides: ModuleSet) -> ModuleSet
 {
     let mut set = ModuleSet::empty();
     for i in 0..netlist.home_count() {
-        let Some(place) = netlist.place(i) else {
-            break;
-        };
-        if sides.has(place) {
+        if netlist.place(i).is_some_and(|place| sides.has(place)) {
             set = set.with(i as u8);
         }
     }

@@ -1,2 +1,2 @@
-pub mod TablesAsked
+pub mod StartPairs
 pub mod TablesAccepted

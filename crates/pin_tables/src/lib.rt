@@ -1,5 +1,5 @@
 //! Pin tables: a bottom over starts, pins and prices of the caller's.
-#![tactic(auto)]
+#![tactic(auto, using(bottom::proofs::Asked::asked))]
 
 ghost use Rattle.std.specs.Prelude.{◌≡◌, ◌+◌, ◌≤◌, length};
 ghost use Rattle.bottom.specs.Fitting.{FewPins, PinsThere};
@@ -10,6 +10,7 @@ mod pins;
 pub mod questions;
 
 /// A netlist whose net i owns the pins from `starts[i]` up to, not including, `starts[i + 1]`.
+/// Three tables in parallel, since the caller hands them in so.
 #[derive(Drop)]
 pub struct PinTables<'a, P> {
     modules: usize,

@@ -1,5 +1,5 @@
 //! Loading pin tables: the checks in their order, then the tables as they are.
-ghost use Rattle.std.specs.Prelude.{◌≡◌, ◌+◌, ◌≤◌, length};
+ghost use Rattle.std.specs.Prelude.{◌≡◌, ◌-◌, ◌<◌, ◌≤◌, length};
 ghost use Rattle.refusal.specs.declared.Fault.TheVariants.{TablesDisagree};
 ghost use Rattle.refusal.specs.Checks.{fault_if};
 ghost use Rattle.bottom.specs.LoadFaults.{few_fault, checked, Loads};
@@ -9,7 +9,7 @@ ghost use Rattle.pin_tables.specs.Means.{means};
 use crate::PinTables;
 use crate::pins::check_pins;
 use price::Price;
-use refusal::{Fault, Place};
+use refusal::Fault;
 
 impl<'a, P: Price> PinTables<'a, P> {
     /// Fills the tables with the caller's own, or refuses them and leaves what was there.
@@ -26,8 +26,8 @@ impl<'a, P: Price> PinTables<'a, P> {
         let nets = prices.len();
         bottom::check_counts(modules, nets)?;
         check_tables(starts, pins.len(), nets)?;
-        check_pin_counts(starts, nets)?;
-        check_pins(modules, starts, pins, nets)?;
+        check_pin_counts(starts)?;
+        check_pins(modules, starts, pins)?;
         *self = PinTables {
             modules,
             starts,
@@ -50,16 +50,10 @@ fn check_tables(starts: &[u32], pins: usize, nets: usize) -> Result<(), Fault>
 }
 
 /// Refuses the first net with fewer than two pins; starts that fall count so.
-fn check_pin_counts(starts: &[u32], nets: usize) -> Result<(), Fault>
-    requires { length starts.now ≡ nets + 1 }
-    ensures { result ≡ checked (few_fault (few starts.now) nets) }
+fn check_pin_counts(starts: &[u32]) -> Result<(), Fault>
+    requires { 0 < length starts.now }
+    ensures { result ≡ checked (few_fault (few starts.now) (length starts.now - 1)) }
 {
-    for net in 0..nets {
-        if (starts[net + 1] as u64) < starts[net] as u64 + 2 {
-            return Err(Fault::TooFewPins {
-                at: Place::Net(net),
-            });
-        }
-    }
-    Ok(())
+    let mut nets = starts.iter().zip(&starts[1..]);
+    bottom::check_few_pins(nets.position(|(from, to)| to.saturating_sub(*from) < 2))
 }

@@ -1,6 +1,7 @@
 //! The empty pin tables, and the questions about pin tables.
-ghost use Rattle.std.specs.Prelude.{◌≡◌};
+ghost use Rattle.std.specs.Prelude.{◌≡◌, ◌<◌, ◌≤◌, length, MatchOption};
 ghost use Rattle.bottom.specs.BottomMeaning.{empty_meaning};
+ghost use Rattle.pin_tables.specs.Tables.{net_pins};
 ghost use Rattle.pin_tables.specs.Means.{means, means_sound};
 
 use crate::PinTables;
@@ -19,8 +20,20 @@ impl<'a, P: Price> PinTables<'a, P> {
             prices: &[],
         }
     }
+
+    /// The pins of a net.
+    fn pins_of(&self, net: usize) -> Option<&[u8]>
+        ensures { MatchOption result
+            (length self.now.prices.now ≤ net)
+            (λ pins. (net < length self.now.prices.now) × (pins.now ≡ net_pins self.now.starts.now self.now.pins.now net)) }
+    {
+        let from = *self.starts.get(net)? as usize;
+        let to = *self.starts.get(net + 1)? as usize;
+        Some(&self.pins[from..to])
+    }
 }
 
+// Those about modules and prices are a line each, the same in both bottoms: forwarding to a shared struct takes as many.
 impl<'a, P: Price> Netlist for PinTables<'a, P> {
     type Price = P;
 
@@ -41,47 +54,22 @@ impl<'a, P: Price> Netlist for PinTables<'a, P> {
     }
 
     fn place(&self, home: usize) -> Option<u8> {
-        if home < self.modules {
-            Some(home as u8)
-        } else {
-            None
-        }
+        (home < self.modules).then(|| home as u8)
     }
 
     fn pin_count(&self, net: usize) -> Option<usize> {
-        if net < self.prices.len() {
-            Some((self.starts[net + 1] - self.starts[net]) as usize)
-        } else {
-            None
-        }
+        Some(self.pins_of(net)?.len())
     }
 
     fn pin(&self, net: usize, k: usize) -> Option<u8> {
-        if net >= self.prices.len() {
-            return None;
-        }
-        let from = self.starts[net] as usize;
-        let to = self.starts[net + 1] as usize;
-        if k < to - from {
-            Some(self.pins[from + k])
-        } else {
-            None
-        }
+        self.pins_of(net)?.get(k).copied()
     }
 
     fn price(&self, net: usize) -> Option<P> {
-        if net < self.prices.len() {
-            Some(self.prices[net])
-        } else {
-            None
-        }
+        self.prices.get(net).copied()
     }
 
     fn is_muted(&self, net: usize) -> Option<bool> {
-        if net < self.prices.len() {
-            Some(false)
-        } else {
-            None
-        }
+        (net < self.prices.len()).then_some(false)
     }
 }

@@ -6,7 +6,7 @@ use Rattle.refusal.specs.Checks.{or_else}
 use Rattle.refusal.specs.declared.Fault.{Fault}
 use Rattle.netlist.specs.Places.{place}
 use Rattle.netlist.specs.Meaning.{Meaning, Sound, homes}
-use Rattle.netlist.specs.Changes.{strapped, united, united_place_lem}
+use Rattle.netlist.specs.Changes.{strapped, united, united_place}
 use Rattle.netlist.specs.Strapping.{KeepsGroups}
 use Rattle.netlist.proofs.Straps.{strapping}
 use Rattle.layers.specs.Refusals.{strap_fault}
@@ -28,7 +28,7 @@ second_passed (Some fault) g e = absurd (no_none fault e)
 
 strapped_long : (a b : ℕ) (row : List ℕ) (t : Bool) → length (cond t row (united a b row)) ≡ length row
 strapped_long a b row true = refl
-strapped_long a b row false = length-map row (united_place_lem a b)
+strapped_long a b row false = length-map row (united_place a b)
 
 module _ {P : Type 0} where
   nets_apply : (c : Change) (m : Meaning P) → (apply c m).nets ≡ m.nets

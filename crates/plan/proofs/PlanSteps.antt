@@ -1,26 +1,24 @@
 -- Calls on a plan, from what was checked and what was left.
-use Rattle.std.proofs.Common.{◌≡◌, ℕ, zero, suc, ◌+◌, ◌-◌, ◌<◌, ◌≤◌, List, ◌∷◌, length, take, set, Some, None, Ok, Err, Option, Result, sym, refl, ap, ◌∙◌, subst, ap₂, add-one, arith, length-take, get_or-set_other, get_or-take, get_or-set_same}
+use Rattle.std.proofs.Common.{◌≡◌, ℕ, zero, suc, ◌<◌, ◌≤◌, List, [], ◌∷◌, ◌++◌, length, Some, None, Ok, Err, Option, Result, sym, refl, ap, ◌∙◌, subst, ap₂, arith}
+use Rattle.std.proofs.lemmas.List.{length-append, get_or_append_left, get_or_at}
 use Rattle.std.proofs.lemmas.Bool.Decides.{nat_tests}
-use Rattle.std.specs.Result.{result_and}
+use Rattle.std.specs.Option.{ok_or}
 use Rattle.refusal.specs.Checks.{or_else}
 use Rattle.refusal.specs.declared.Fault.{Fault}
 use Rattle.refusal.specs.declared.Fault.TheVariants.{NothingToTakeBack}
 use Rattle.price.specs.Kind.{Kind, Laws}
 use Rattle.netlist.specs.Meaning.{Meaning, Sound, homes}
 use Rattle.cut.specs.declared.found.FoundSplit.{FoundSplit}
-use Rattle.layers.specs.Changed.{Straps, Mutes}
-use Rattle.layers.specs.Refusals.{strap_fault, mute_fault, Checked}
+use Rattle.layers.specs.Refusals.{Checked}
 use Rattle.partition.specs.Pulls.{cleared}
 use Rattle.partition.specs.Splits.{SplitAnswer, split_fault}
 use Rattle.standing.specs.declared.change.Change.{Change}
-use Rattle.standing.specs.declared.change.Change.TheVariants.{Strapped}
+use Rattle.standing.specs.declared.change.Change.TheVariants.{Strapped, Muted}
 use Rattle.plan.specs.declared.calls.Answer.{Answer}
 use Rattle.plan.specs.declared.calls.Answer.TheVariants.{Done, Refused, Found}
-use Rattle.price.specs.declared.Price.{Ghosts as PriceGhosts}
-use Rattle.netlist.specs.declared.Netlist.{Ghosts as NetlistGhosts}
 use Rattle.plan.specs.declared.plans.Plan.{Plan}
-use Rattle.standing.specs.Standing.{applied, latest_first}
-use Rattle.plan.specs.Reckoning.{Call, strap, mute, take_back, split, look, full_fault, empty_fault, refusal, without_latest, changed, left_by, answered, found, shown_then, shown_by, told, accepted_answer, answer_by}
+use Rattle.standing.specs.Standing.{applied, change_fault, latest_first}
+use Rattle.plan.specs.Reckoning.{Call, making, strap, mute, take_back, split, look, full_fault, empty_fault, refusal, without_latest, changed, left_by, answered, found, shown_then, shown_by, told, accepted_answer, answer_by}
 use Rattle.plan.specs.Runs.{Leaves, answer_to}
 use Rattle.plan.specs.Plans.{standing_changes, plan_meaning}
 use Rattle.plan.specs.PlanCalls.{of_change, refusal_on, CallOn, cells_left}
@@ -32,34 +30,25 @@ pub length_latest : (n : ℕ) (table : List Change) → length (latest_first n t
 length_latest zero table = refl
 length_latest (suc n) table = ap suc (length_latest n table)
 
-latest_other : (n i : ℕ) (table : List Change) (c : Change) → n ≤ i → latest_first n (set table i c) ≡ latest_first n table
-latest_other zero i table c h = refl
-latest_other (suc n) i table c h = ap₂ (λ x xs. x ∷ xs) (get_or-set_other table i n c (Strapped 0 0) (λ e. omega arith)) (latest_other n i table c (omega arith))
+latest_appended : (n : ℕ) (xs ys : List Change) → n ≤ length xs → latest_first n (xs ++ ys) ≡ latest_first n xs
+latest_appended zero xs ys h = refl
+latest_appended (suc n) xs ys h = ap₂ (λ c cs. c ∷ cs) (get_or_append_left xs ys (Strapped 0 0) n (omega arith)) (latest_appended n xs ys (omega arith))
 
-latest_within : (i n : ℕ) (table : List Change) → i ≤ n → latest_first i (take n table) ≡ latest_first i table
-latest_within zero n table h = refl
-latest_within (suc i) n table h = ap₂ (λ x xs. x ∷ xs) (get_or-take n table i (Strapped 0 0) (omega arith)) (latest_within i n table (omega arith))
+-- one change more, and one fewer
+pub latest_more : (xs : List Change) (c : Change) → latest_first (length (xs ++ c ∷ [])) (xs ++ c ∷ []) ≡ c ∷ latest_first (length xs) xs
+latest_more xs c =
+    let long : length (xs ++ c ∷ []) ≡ suc (length xs) = length-append xs (c ∷ []) ∙ omega arith in
+    ap (λ n. latest_first n (xs ++ c ∷ [])) long
+    ∙ ap₂ (λ d ds. d ∷ ds) (get_or_at xs c [] (Strapped 0 0) (length xs) refl) (latest_appended (length xs) xs (c ∷ []) (omega arith))
 
--- the first n of the table, by themselves
-pub latest_of_first : (n : ℕ) (table : List Change) → n ≤ length table → latest_first (length (take n table)) (take n table) ≡ latest_first n table
-latest_of_first n table h =
-    let long : length (take n table) ≡ n = simp length-take (omega arith) in
-    ap (λ i. latest_first i (take n table)) long ∙ latest_within n n table (omega arith)
+pub latest_fewer : (old new : List Change) (c : Change) → old ≡ new ++ c ∷ [] → latest_first (length new) new ≡ without_latest (latest_first (length old) old)
+latest_fewer old new c e = sym (ap (λ xs. without_latest (latest_first (length xs) xs)) e ∙ ap without_latest (latest_more new c))
 
-pub latest_more : (n : ℕ) (table : List Change) (c : Change) → n < length table → latest_first (n + 1) (set table n c) ≡ c ∷ latest_first n table
-latest_more n table c h = rw add-one (ap₂ (λ x xs. x ∷ xs) (get_or-set_same table n c (Strapped 0 0) h) (latest_other n n table c (omega arith)))
+pub none_to_take_back : (xs : List Change) → length xs ≡ 0 → empty_fault (latest_first (length xs) xs) ≡ Some NothingToTakeBack
+none_to_take_back xs e = ap (λ n. empty_fault (latest_first n xs)) e
 
-pub latest_fewer : (n : ℕ) (table : List Change) → (n ≡ 0 → ⊥) → latest_first (n - 1) table ≡ without_latest (latest_first n table)
-latest_fewer zero table h = absurd (h refl)
-latest_fewer (suc n) table h = ap (λ z. latest_first z table) (let e : suc n - 1 ≡ n = omega arith in e)
-
-pub none_to_take_back : (n : ℕ) (table : List Change) → n ≡ 0 → empty_fault (latest_first n table) ≡ Some NothingToTakeBack
-none_to_take_back zero table e = refl
-none_to_take_back (suc n) table e = absurd (omega arith)
-
-pub some_to_take_back : (n : ℕ) (table : List Change) → (n ≡ 0 → ⊥) → empty_fault (latest_first n table) ≡ None
-some_to_take_back zero table e = absurd (e refl)
-some_to_take_back (suc n) table e = refl
+pub some_to_take_back : (old new : List Change) (c : Change) → old ≡ new ++ c ∷ [] → empty_fault (latest_first (length old) old) ≡ None
+some_to_take_back old new c e = ap (λ xs. empty_fault (latest_first (length xs) xs)) e ∙ ap empty_fault (latest_more new c)
 
 done_refused : {P : Type 0} (fault : Fault) → ◌≡◌ {A = Answer P} Done (Refused fault) → ⊥
 done_refused fault e = let z : ◌≡◌ {A = ℕ} 0 1 = cc in omega arith
@@ -71,39 +60,36 @@ told_refused (Some v) fault e = let z : ◌≡◌ {A = ℕ} 0 1 = cc in omega ar
 ok_err : {X : Type 0} (x : X) (fault : Fault) → Ok x ≡ Err fault → ⊥
 ok_err x fault e = let z : ◌≡◌ {A = ℕ} 0 1 = cc in omega arith
 
--- two checks, one after the other
-both_checked : (f g : Option Fault) (r s : Result (Unit {0}) Fault) → Checked f r → Checked g s → Checked (or_else f g) (result_and r s)
-both_checked f g (Ok _) s first second = subst (λ z. Checked (or_else z g) s) (sym first) second
-both_checked f g (Err fault) s first second = ap (λ z. or_else z g) first
+-- what `ok_or` tells of an option
+pub err_of_ok_or : {X E : Type 0} (o : Option X) (e f : E) → Err f ≡ ok_or o e → (o ≡ None) × (f ≡ e)
+err_of_ok_or None e f h = (refl, cc)
+err_of_ok_or (Some x) e f h = absurd (let z : ◌≡◌ {A = ℕ} 0 1 = cc in omega arith)
 
--- what layers tell of a strap and of a mute
-module _ {P L : Type 0} (means : L → Meaning P) (old new : L) where
-  pub straps_checked : (a b : ℕ) (r : Result (Unit {0}) Fault) → Straps means a b old new r → Checked (strap_fault a b (means old)) r
-  straps_checked a b (Ok _) h = h.0
-  straps_checked a b (Err fault) h = h.0
+pub ok_of_ok_or : {X E : Type 0} (o : Option X) (e : E) (x : X) → Ok x ≡ ok_or o e → o ≡ Some x
+ok_of_ok_or None e x h = absurd (let z : ◌≡◌ {A = ℕ} 0 1 = cc in omega arith)
+ok_of_ok_or (Some y) e x h = let same : y ≡ x = cc in ap Some same
 
-  pub mutes_checked : (n : ℕ) (r : Result (Unit {0}) Fault) → Mutes means n old new r → Checked (mute_fault n (means old)) r
-  mutes_checked n (Ok _) h = h.0
-  mutes_checked n (Err fault) h = h.0
-
--- the checks of a strap and of a mute
+-- the check of a change
 module _ {P : Type 0} (m : Meaning P) (cs : List Change) where
-  pub strap_checked : (a b : ℕ) (r s : Result (Unit {0}) Fault) → Checked (strap_fault a b (applied m cs)) r → Checked (full_fault cs) s → Checked (refusal m cs (strap a b)) (result_and r s)
+  -- the layers' refusal comes first, then that of a full plan
+  making_refused : (change : Change) → refusal m cs (making change) ≡ or_else (change_fault change (applied m cs)) (full_fault cs)
   unfolding refusal
-  strap_checked a b r s first second = both_checked (strap_fault a b (applied m cs)) (full_fault cs) r s first second
+  making_refused (Strapped a b) = refl
+  making_refused (Muted n) = refl
 
-  pub mute_checked : (n : ℕ) (r s : Result (Unit {0}) Fault) → Checked (mute_fault n (applied m cs)) r → Checked (full_fault cs) s → Checked (refusal m cs (mute n)) (result_and r s)
-  unfolding refusal
-  mute_checked n r s first second = both_checked (mute_fault n (applied m cs)) (full_fault cs) r s first second
+  pub layers_refuse : (change : Change) (fault : Fault) (r : Result (Unit {0}) Fault) → change_fault change (applied m cs) ≡ Some fault → r ≡ Err fault
+      → Checked (refusal m cs (making change)) r
+  layers_refuse change fault r e q = subst (Checked (refusal m cs (making change))) (sym q) (making_refused change ∙ ap (λ z. or_else z (full_fault cs)) e)
+
+  pub room_tells : (change : Change) (r : Result (Unit {0}) Fault) → change_fault change (applied m cs) ≡ None → Checked (full_fault cs) r
+      → Checked (refusal m cs (making change)) r
+  room_tells change r e room = subst (λ z. Checked z r) (sym (making_refused change ∙ ap (λ z. or_else z (full_fault cs)) e)) room
 
   -- an accepted change finds room
-  pub strap_room : (a b : ℕ) → refusal m cs (strap a b) ≡ None → length cs < 64
-  unfolding refusal
-  strap_room a b e = let room : full_fault cs ≡ None = second_passed (strap_fault a b (applied m cs)) (full_fault cs) e in grind (arith, nat_tests)
-
-  pub mute_room : (n : ℕ) → refusal m cs (mute n) ≡ None → length cs < 64
-  unfolding refusal
-  mute_room n e = let room : full_fault cs ≡ None = second_passed (mute_fault n (applied m cs)) (full_fault cs) e in grind (arith, nat_tests)
+  pub change_room : (change : Change) → refusal m cs (making change) ≡ None → length cs < 64
+  change_room change e =
+      let room : full_fault cs ≡ None = second_passed (change_fault change (applied m cs)) (full_fault cs) (sym (making_refused change) ∙ e) in
+      grind (arith, nat_tests)
 
   pub take_back_by : refusal m cs take_back ≡ empty_fault cs
   unfolding refusal
@@ -123,8 +109,8 @@ module _ {P : Type 0} (k : Kind P) (m : Meaning P) (cells after : List P) where
       (refl, ap (answered (homes m)) h.by_rounds ∙ ap Some (sym (ap₂ (λ s p. record { sides = s; price = p }) h.sides h.price) ∙ same), h.zeroed)
   split_found_by (Some fault) v h = absurd (ok_err v fault h.refused)
 
-module _ {N P : Type 0} {G : NetlistGhosts N P} {H : PriceGhosts P} (k : Kind P) (l : Laws k) (means : N → Meaning P) (sound : (n : N) → Sound (means n)) where
-  call_on : (call : Call) (before after : Plan N P G H) (answer : Answer P)
+module _ {N P : Type 0} (k : Kind P) (l : Laws k) (means : N → Meaning P) (sound : (n : N) → Sound (means n)) where
+  call_on : (call : Call) (before after : Plan N P) (answer : Answer P)
       → answer ≡ answer_to k (means before.below) (standing_changes before) before.shown call
       → Leaves k (means before.below) (standing_changes before) before.shown call (standing_changes after) after.shown
       → after.below ≡ before.below → ((fault : Fault) → answer ≡ Refused fault → after ≡ before) → CallOn k means call before after answer
@@ -136,14 +122,14 @@ module _ {N P : Type 0} {G : NetlistGhosts N P} {H : PriceGhosts P} (k : Kind P)
     promise = keeps_promise k l (means before.below) (sound before.below) (standing_changes before) (standing_changes after) before.shown after.shown call answer exact leaves;
   }
 
-  pub refused_on : (call : Call) (plan : Plan N P G H) (fault : Fault) → refusal_on means plan call ≡ Some fault → CallOn k means call plan plan (Refused fault)
+  pub refused_on : (call : Call) (plan : Plan N P) (fault : Fault) → refusal_on means plan call ≡ Some fault → CallOn k means call plan plan (Refused fault)
   refused_on call plan fault e =
       let f = found k (plan_meaning means plan) in
       call_on call plan plan (Refused fault) (ap (λ r. answer_by r f plan.shown call) (sym e))
       (record { changes = ap (λ r. left_by r (standing_changes plan) call) (sym e); shown = ap (λ r. shown_by r f plan.shown call) (sym e) })
       refl (λ _ _. refl)
 
-  accepted_on : (call : Call) (before after : Plan N P G H) (answer : Answer P) → refusal_on means before call ≡ None
+  accepted_on : (call : Call) (before after : Plan N P) (answer : Answer P) → refusal_on means before call ≡ None
       → answer ≡ accepted_answer (found k (plan_meaning means before)) before.shown call
       → standing_changes after ≡ changed (standing_changes before) call → after.shown ≡ shown_then (found k (plan_meaning means before)) before.shown call
       → after.below ≡ before.below → ((fault : Fault) → answer ≡ Refused fault → after ≡ before) → CallOn k means call before after answer
@@ -154,18 +140,15 @@ module _ {N P : Type 0} {G : NetlistGhosts N P} {H : PriceGhosts P} (k : Kind P)
       below stays
 
   -- a refused change, take back or split, by its result
-  pub change_refused : (call : Call) (plan : Plan N P G H) (fault : Fault) (r : Result (Unit {0}) Fault) → refusal_on means plan call ≡ Some fault → r ≡ Err fault
+  pub change_refused : (call : Call) (plan : Plan N P) (fault : Fault) (r : Result (Unit {0}) Fault) → refusal_on means plan call ≡ Some fault → r ≡ Err fault
       → CallOn k means call plan plan (of_change r)
   change_refused call plan fault r e q = subst (λ z. CallOn k means call plan plan (of_change z)) (sym q) (refused_on call plan fault e)
 
-  module _ (before after : Plan N P G H) (below : after.below ≡ before.below) where
-    pub strap_done : (a b : ℕ) → refusal_on means before (strap a b) ≡ None → standing_changes after ≡ changed (standing_changes before) (strap a b) → after.shown ≡ None
-        → CallOn k means (strap a b) before after Done
-    strap_done a b e cs o = accepted_on (strap a b) before after Done e refl cs o below (λ fault z. absurd (done_refused fault z))
-
-    pub mute_done : (n : ℕ) → refusal_on means before (mute n) ≡ None → standing_changes after ≡ changed (standing_changes before) (mute n) → after.shown ≡ None
-        → CallOn k means (mute n) before after Done
-    mute_done n e cs o = accepted_on (mute n) before after Done e refl cs o below (λ fault z. absurd (done_refused fault z))
+  module _ (before after : Plan N P) (below : after.below ≡ before.below) where
+    pub change_done : (change : Change) → refusal_on means before (making change) ≡ None → standing_changes after ≡ change ∷ standing_changes before → after.shown ≡ None
+        → CallOn k means (making change) before after Done
+    change_done (Strapped a b) e cs o = accepted_on (strap a b) before after Done e refl cs o below (λ fault z. absurd (done_refused fault z))
+    change_done (Muted n) e cs o = accepted_on (mute n) before after Done e refl cs o below (λ fault z. absurd (done_refused fault z))
 
     pub take_back_done : refusal_on means before take_back ≡ None → standing_changes after ≡ changed (standing_changes before) take_back → after.shown ≡ None
         → CallOn k means take_back before after Done
@@ -176,19 +159,19 @@ module _ {N P : Type 0} {G : NetlistGhosts N P} {H : PriceGhosts P} (k : Kind P)
     split_done cells v e f cs o =
         accepted_on (split cells) before after (Found v) e (ap told (sym f)) cs (o ∙ sym f) below (λ fault z. absurd (told_refused (Some v) fault z))
 
-  pub look_on : (plan : Plan N P G H) → CallOn k means look plan plan (told plan.shown)
+  pub look_on : (plan : Plan N P) → CallOn k means look plan plan (told plan.shown)
   look_on plan = accepted_on look plan plan (told plan.shown) (look_free (means plan.below) (standing_changes plan)) refl refl refl refl (λ fault z. refl)
 
   -- the refusal of a split on a plan is that of the call over the standing netlist
-  pub split_refusal : (plan : Plan N P G H) (cells : ℕ) → refusal_on means plan (split cells) ≡ split_fault (plan_meaning means plan) cells
+  pub split_refusal : (plan : Plan N P) (cells : ℕ) → refusal_on means plan (split cells) ≡ split_fault (plan_meaning means plan) cells
   unfolding refusal
   split_refusal plan cells = refl
 
-  pub split_cells_stay : (plan : Plan N P G H) (fault : Fault) (n : ℕ) (cells after : List P) → refusal_on means plan (split n) ≡ Some fault → after ≡ cells
+  pub split_cells_stay : (plan : Plan N P) (fault : Fault) (n : ℕ) (cells after : List P) → refusal_on means plan (split n) ≡ Some fault → after ≡ cells
       → after ≡ cells_left k (refusal_on means plan (split n)) (homes (means plan.below)) cells
   split_cells_stay plan fault n cells after e stay = stay ∙ ap (λ r. cells_left k r (homes (means plan.below)) cells) (sym e)
 
-  pub split_cells_zeroed : (plan : Plan N P G H) (n : ℕ) (cells after : List P) → refusal_on means plan (split n) ≡ None → after ≡ cleared k (homes (plan_meaning means plan)) cells
+  pub split_cells_zeroed : (plan : Plan N P) (n : ℕ) (cells after : List P) → refusal_on means plan (split n) ≡ None → after ≡ cleared k (homes (plan_meaning means plan)) cells
       → after ≡ cells_left k (refusal_on means plan (split n)) (homes (means plan.below)) cells
   split_cells_zeroed plan n cells after e zeroed =
       zeroed

@@ -7,8 +7,6 @@ use Rattle.cut.specs.declared.found.FoundSplit.{FoundSplit}
 use Rattle.partition.specs.Pulls.{cleared}
 use Rattle.plan.specs.declared.calls.Answer.{Answer}
 use Rattle.plan.specs.declared.calls.Answer.TheVariants.{Done, Refused, Found}
-use Rattle.price.specs.declared.Price.{Ghosts as PriceGhosts}
-use Rattle.netlist.specs.declared.Netlist.{Ghosts as NetlistGhosts}
 use Rattle.plan.specs.declared.plans.Plan.{Plan}
 use Rattle.plan.specs.declared.calls.Asked.{Asked}
 use Rattle.plan.specs.declared.calls.Asked.TheVariants.{Strap, Mute, TakeBack, Split, Look}
@@ -26,16 +24,16 @@ of_split (Ok found) = Found found
 of_split (Err fault) = Refused fault
 
 -- These calls on a new plan over the netlist below were answered so, and led to this plan.
-abbrev pub LedTo : {N P : Type 0} {G : NetlistGhosts N P} {H : PriceGhosts P} → Kind P → (N → Meaning P) → List Call → List (Answer P) → Plan N P G H → Type 0
+abbrev pub LedTo : {N P : Type 0} → Kind P → (N → Meaning P) → List Call → List (Answer P) → Plan N P → Type 0
 LedTo k means calls answers plan = Ran k (means plan.below) calls (standing_changes plan) plan.shown answers
 
 -- why a call on a plan is refused
-abbrev pub refusal_on : {N P : Type 0} {G : NetlistGhosts N P} {H : PriceGhosts P} → (N → Meaning P) → Plan N P G H → Call → Option Fault
+abbrev pub refusal_on : {N P : Type 0} → (N → Meaning P) → Plan N P → Call → Option Fault
 refusal_on means plan call = refusal (means plan.below) (standing_changes plan) call
 
 -- A call on a plan: it is answered and leaves the changes and what is shown as is reckoned from what the netlist below means,
 -- it leaves that netlist, and refused it leaves the whole plan. With it the promise holds of every history that leads here.
-pub record CallOn {N P : Type 0} {G : NetlistGhosts N P} {H : PriceGhosts P} (k : Kind P) (means : N → Meaning P) (call : Call) (before after : Plan N P G H) (answer : Answer P) : Type 0 where
+pub record CallOn {N P : Type 0} (k : Kind P) (means : N → Meaning P) (call : Call) (before after : Plan N P) (answer : Answer P) : Type 0 where
   pub exact : answer ≡ answer_to k (means before.below) (standing_changes before) before.shown call
   pub leaves : Leaves k (means before.below) (standing_changes before) before.shown call (standing_changes after) after.shown
   pub below_stays : after.below ≡ before.below

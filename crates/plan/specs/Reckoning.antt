@@ -33,6 +33,11 @@ call_of TakeBack = take_back
 call_of (Split cells) = split (vec_len cells)
 call_of Look = look
 
+-- the call that makes a change
+abbrev pub making : Change → Call
+making (Strapped a b) = strap a b
+making (Muted n) = mute n
+
 -- no more than 64 changes stand
 abbrev pub full_fault : List Change → Option Fault
 full_fault cs = cond (nat_lt (length cs) 64) None (Some PlanFull)

@@ -13,7 +13,7 @@ pub enum Asked<P> {
 }
 
 /// What a call answers.
-#[derive(Clone, Copy, Debug)]
+#[derive(Clone, Copy, PartialEq, Eq, Debug)]
 pub enum Answer<P> {
     /// A change or take back was accepted.
     Done,

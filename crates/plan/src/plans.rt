@@ -1,6 +1,5 @@
 //! The plan's record.
-ghost use Rattle.std.specs.Prelude.{◌≡◌, ◌≤◌, length};
-
+use arrayvec::ArrayVec;
 use cut::found::FoundSplit;
 use netlist::Netlist;
 use standing::change::Change;
@@ -10,14 +9,13 @@ pub mod changing;
 mod checking;
 pub mod questions;
 
-/// A netlist, the changes that stand over it, and the split that is shown.
-/// The first `count` of `changes` stand, the latest last.
+/// How many changes a plan holds at most.
+const ROOM: usize = 64;
+
+/// A netlist, the changes that stand over it, the latest last, and the split that is shown.
 #[derive(Drop)]
 pub struct Plan<N: Netlist> {
     below: N,
-    changes: [Change; 64],
-    count: usize,
+    changes: ArrayVec<Change, ROOM>,
     shown: Option<FoundSplit<N::Price>>,
-    ghost long: { length changes ≡ 64 },
-    ghost few: { count ≤ 64 },
 }

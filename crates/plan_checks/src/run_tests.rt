@@ -1,20 +1,12 @@
 //! A list of calls run on a new plan, with the order of the netlist.
 use chain::Chain;
+use fixtures::wires;
 use plan::calls::{Answer, Asked};
 use price::Price;
 use price::values::Wires;
+use refusal::Fault;
 use runs::ordering::run_and_order;
 use std::test::Fail;
-
-// The answer as a refusal's number, 0 where a change is done, 100 where nothing is shown, and else the sides word's first byte.
-fn told(answer: Answer<Wires>) -> u64 {
-    match answer {
-        Answer::Done => 0,
-        Answer::Refused(fault) => fault.number() as u64,
-        Answer::Found(split) => split.sides >> 56,
-        Answer::Absent => 100,
-    }
-}
 
 #[test]
 fn calls_on_a_chain_of_four(rt: HostRuntime) -> Result<(), Fail> {
@@ -40,11 +32,22 @@ fn calls_on_a_chain_of_four(rt: HostRuntime) -> Result<(), Fail> {
         &mut bytes,
     );
     assert_eq!(rt; whole.count, 10);
-    assert_eq!(rt; whole.ordered.ok(), Some(Wires { count: 1 }));
+    assert_eq!(rt; whole.ordered, Ok(Wires { count: 1 }));
     assert_eq!(rt; bytes, [0, 1, 2, 3, 9]);
-    let expected = [100, 0x10, 0, 100, 10, 0x30, 13, 0x30, 0, 16];
-    for (answer, number) in answers.iter().zip(expected.iter()) {
-        assert_eq!(rt; told(*answer), *number);
-    }
+    assert_eq!(rt;
+        answers,
+        [
+            Answer::Absent,
+            Answer::Found(wires(0x1000_0000_0000_0000, 1)),
+            Answer::Done,
+            Answer::Absent,
+            Answer::Refused(Fault::TooShort { table: 1 }),
+            Answer::Found(wires(0x3000_0000_0000_0000, 1)),
+            Answer::Refused(Fault::NoSuchNet),
+            Answer::Found(wires(0x3000_0000_0000_0000, 1)),
+            Answer::Done,
+            Answer::Refused(Fault::NothingToTakeBack),
+        ]
+    );
     Ok(())
 }

@@ -10,13 +10,14 @@ pub mod widest;
 pub mod wires;
 
 /// A kind of price. `kind` says what each method answers, and the laws hold over all its values.
+// Methods, not `Ord`, `From` and `Into`: a kind owes no more than this interface, and two numbers stand for a price, told apart by name.
 pub trait Price: Copy {
     ghost kind: { Kind Self };
 
     /// The kind's number on a page.
     const PAGE_NUMBER: u8;
 
-    /// `PAGE_NUMBER`: a constant takes no contract, so this method carries it.
+    /// `PAGE_NUMBER`, with a promise. No law holds the constant to it: that would ask more of whoever implements a kind.
     fn number() -> u8
         ensures { result ≡ kind.number };
 

@@ -41,7 +41,7 @@ impl Price for TimersFirst {
     }
 
     fn less(self, other: TimersFirst) -> bool {
-        self.timers < other.timers || self.timers == other.timers && self.wires < other.wires
+        self < other
     }
 
     fn from_field(bits: u32) -> TimersFirst {
@@ -52,6 +52,6 @@ impl Price for TimersFirst {
     }
 
     fn print_word(self) -> u64 {
-        (self.timers as u64) << 32 | self.wires as u64
+        u64::from(self.timers) << 32 | u64::from(self.wires)
     }
 }

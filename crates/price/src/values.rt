@@ -2,14 +2,14 @@
 ghost use Rattle.std.specs.Prelude.{◌^◌, ◌<◌};
 
 /// A number of wires.
-#[derive(Clone, Copy, PartialEq, Eq, Debug)]
+#[derive(Clone, Copy, PartialEq, Eq, PartialOrd, Ord, Debug)]
 pub struct Wires {
     pub count: u64,
     ghost bounded: { count < 2 ^ 64 },
 }
 
 /// A number of timers, and a number of wires that counts on equal timers only.
-#[derive(Clone, Copy, PartialEq, Eq, Debug)]
+#[derive(Clone, Copy, PartialEq, Eq, PartialOrd, Ord, Debug)]
 pub struct TimersFirst {
     pub timers: u32,
     pub wires: u32,
@@ -17,7 +17,7 @@ pub struct TimersFirst {
 }
 
 /// The width of the widest net.
-#[derive(Clone, Copy, PartialEq, Eq, Debug)]
+#[derive(Clone, Copy, PartialEq, Eq, PartialOrd, Ord, Debug)]
 pub struct Widest {
     pub width: u64,
     ghost bounded: { width < 2 ^ 64 },

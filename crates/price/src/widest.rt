@@ -30,11 +30,13 @@ impl Price for Widest {
     }
 
     fn less(self, other: Widest) -> bool {
-        self.width < other.width
+        self < other
     }
 
     fn from_field(bits: u32) -> Widest {
-        Widest { width: bits as u64 }
+        Widest {
+            width: u64::from(bits),
+        }
     }
 
     fn print_word(self) -> u64 {

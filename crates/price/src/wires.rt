@@ -30,11 +30,13 @@ impl Price for Wires {
     }
 
     fn less(self, other: Wires) -> bool {
-        self.count < other.count
+        self < other
     }
 
     fn from_field(bits: u32) -> Wires {
-        Wires { count: bits as u64 }
+        Wires {
+            count: u64::from(bits),
+        }
     }
 
     fn print_word(self) -> u64 {

@@ -3,6 +3,7 @@ ghost use Rattle.std.specs.Prelude.{◌≤◌, length};
 ghost use Rattle.page.specs.Unpacking.{Filled};
 ghost use Rattle.printing.specs.PageRuns.{AnswerPage, ScriptOn};
 
+use crate::limits::SCRIPT_MOST;
 use lines::writing::{Line, write_line};
 use loading::load_unpacked;
 use page::counts::Counts;
@@ -11,9 +12,6 @@ use pin_tables::PinTables;
 use price::Price;
 use refusal::Fault;
 use session::whole_script::run_script;
-
-/// A script has at most this many bytes.
-pub const SCRIPT_MOST: usize = 65536;
 
 /// Unpacks a page into the tables, runs a script on a new plan over its netlist, and writes what the program prints. Answers how many bytes that took; later bytes stay.
 /// A refused page is answered by its line alone, and then a script of more than 65,536 bytes by its line alone.
@@ -37,6 +35,7 @@ pub fn answer_page<P: Price>(
 }
 
 /// Runs a script on a new plan over the netlist of a page that was unpacked into these tables.
+// The tables and the buffer stay apart: a struct that lends them needs a clause for each that it is still the caller's.
 fn answer_script<'a, P: Price>(
     counts: Counts,
     starts: &'a [u32],
@@ -52,8 +51,6 @@ fn answer_script<'a, P: Price>(
         return write_line(Line::ScriptTooLong, out);
     }
     let mut netlist = PinTables::empty();
-    match load_unpacked(&mut netlist, counts, starts, pins, prices) {
-        Ok(()) => run_script(netlist, cells, script, out),
-        Err(fault) => Err(fault),
-    }
+    load_unpacked(&mut netlist, counts, starts, pins, prices)?;
+    run_script(netlist, cells, script, out)
 }

@@ -1,5 +1,5 @@
 //! What the program prints, in the price kind that the page names.
-ghost use Rattle.std.specs.Prelude.{◌≡◌, ◌≤◌, length, take, IfOk};
+ghost use Rattle.std.specs.Prelude.{◌≡◌, IfOk};
 ghost use Rattle.lines.specs.Lines.{line_bytes};
 ghost use Rattle.printing.specs.Printed.{Printed};
 
@@ -27,18 +27,7 @@ fn print_line(heap: Global, line: Line) -> Result<Vec<u8>, AllocError>
     ensures { IfOk result (λ printed. printed.items ≡ line_bytes line) }
 {
     let mut out = vec![in heap; 0u8; LINE_ROOM]?;
-    let count = put_line(line, out.as_mut_slice());
+    let count = write_line(line, out.as_mut_slice()).unwrap();
     out.truncate(count);
     Ok(out)
-}
-
-/// Writes a line into a buffer that has room for it.
-fn put_line(line: Line, out: &mut [u8]) -> usize
-    requires { 37 ≤ length out.old }
-    ensures { take result out.new ≡ line_bytes line }
-{
-    match write_line(line, out) {
-        Ok(count) => count,
-        Err(_) => 0,
-    }
 }

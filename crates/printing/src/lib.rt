@@ -3,4 +3,6 @@
 
 pub mod answering;
 pub mod kinds;
+pub mod limits;
 pub mod printing;
+pub mod tables;

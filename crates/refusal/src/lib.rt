@@ -24,18 +24,16 @@ impl Place {
     pub fn number(&self) -> usize
         ensures { result ≡ place_number self.now }
     {
-        match self {
+        match *self {
             Place::Call => 0,
-            Place::Bit(bit) => *bit,
-            Place::Net(net) => *net,
-            Place::Pin { net, .. } => *net,
-            Place::Table(table) => *table,
+            Place::Bit(number) | Place::Net(number) | Place::Table(number) => number,
+            Place::Pin { net, .. } => net,
         }
     }
 }
 
 /// A refusal, with what its place needs. The cases stand in the order of their numbers, 1 to 18.
-#[derive(Clone, Copy, Debug)]
+#[derive(Clone, Copy, PartialEq, Eq, Debug)]
 pub enum Fault {
     /// The page ends inside a field.
     PageEnds { bit: usize },
@@ -76,6 +74,7 @@ pub enum Fault {
 }
 
 impl Fault {
+    // By hand: cases that carry values have no number of their own to cast.
     /// The refusal's number, 1 to 18.
     pub fn number(&self) -> u8
         ensures { result ≡ number_of self.now }
@@ -106,13 +105,15 @@ impl Fault {
     pub fn place(&self) -> Place
         ensures { result ≡ place_of self.now }
     {
-        match self {
+        match *self {
             Fault::PageEnds { bit } | Fault::OtherKind { bit } | Fault::AfterLastNet { bit } =>
-                Place::Bit(*bit),
-            Fault::TooManyModules { at } | Fault::TooManyNets { at } | Fault::TooFewPins { at } =>
-                *at,
-            Fault::NoSuchModule { at } | Fault::RepeatedPin { at } => *at,
-            Fault::TooShort { table } => Place::Table(*table),
+                Place::Bit(bit),
+            Fault::TooManyModules { at }
+            | Fault::TooManyNets { at }
+            | Fault::TooFewPins { at }
+            | Fault::NoSuchModule { at }
+            | Fault::RepeatedPin { at } => at,
+            Fault::TooShort { table } => Place::Table(table),
             _ => Place::Call,
         }
     }

@@ -6,8 +6,6 @@ use Rattle.netlist.specs.Meaning.{Meaning, Sound, homes}
 use Rattle.plan.specs.declared.calls.Asked.{Asked}
 use Rattle.plan.specs.declared.calls.Asked.TheVariants.{Look}
 use Rattle.plan.specs.declared.calls.Answer.{Answer}
-use Rattle.price.specs.declared.Price.{Ghosts as PriceGhosts}
-use Rattle.netlist.specs.declared.Netlist.{Ghosts as NetlistGhosts}
 use Rattle.plan.specs.declared.plans.Plan.{Plan}
 use Rattle.plan.specs.Reckoning.{call_of, refusal, stand}
 use Rattle.plan.specs.Promise.{Promise}
@@ -24,15 +22,15 @@ getD_there (x ∷ xs) zero d e h = refl
 getD_there (x ∷ xs) (suc i) d e h = getD_there xs i d e (omega arith)
 
 -- After i calls: the netlist is the one the plan was made over, the calls so far led to the plan, and what is ahead is as it was.
-pub record SoFar {N P : Type 0} {G : NetlistGhosts N P} {H : PriceGhosts P} (k : Kind P) (means : N → Meaning P) (netlist : N) (calls calls_now : List (Asked P)) (answers answers_now : List (Answer P)) (plan : Plan N P G H) (i : ℕ) : Type 0 where
+pub record SoFar {N P : Type 0} (k : Kind P) (means : N → Meaning P) (netlist : N) (calls calls_now : List (Asked P)) (answers answers_now : List (Answer P)) (plan : Plan N P) (i : ℕ) : Type 0 where
   pub below : plan.below ≡ netlist
   pub calls_ahead : drop i calls_now ≡ drop i calls
   pub answers_ahead : drop i answers_now ≡ drop i answers
   pub ran : Ran k (means netlist) (map call_of (take i calls)) (standing_changes plan) plan.shown (take i answers_now)
   pub rows : RowsLeft k (means netlist) calls calls_now i
 
-module _ {N P : Type 0} {G : NetlistGhosts N P} {H : PriceGhosts P} (k : Kind P) (means : N → Meaning P) (netlist : N) (calls : List (Asked P)) (answers : List (Answer P)) where
-  pub run_starts : (plan : Plan N P G H) → plan.below ≡ netlist → LedTo k means [] [] plan → SoFar k means netlist calls calls answers answers plan 0
+module _ {N P : Type 0} (k : Kind P) (means : N → Meaning P) (netlist : N) (calls : List (Asked P)) (answers : List (Answer P)) where
+  pub run_starts : (plan : Plan N P) → plan.below ≡ netlist → LedTo k means [] [] plan → SoFar k means netlist calls calls answers answers plan 0
   run_starts plan below led = record {
     below = below;
     calls_ahead = refl;
@@ -41,7 +39,7 @@ module _ {N P : Type 0} {G : NetlistGhosts N P} {H : PriceGhosts P} (k : Kind P)
     rows = λ i h. absurd (omega arith);
   }
 
-  module _ (calls_now : List (Asked P)) (answers_now : List (Answer P)) (before after : Plan N P G H) (i : ℕ) (x call_left : Asked P) (answer : Answer P)
+  module _ (calls_now : List (Asked P)) (answers_now : List (Answer P)) (before after : Plan N P) (i : ℕ) (x call_left : Asked P) (answer : Answer P)
       (there : i < length calls) (there_now : i < length calls_now) (room : i < length answers) (room_now : i < length answers_now)
       (so_far : SoFar k means netlist calls calls_now answers answers_now before i)
       (call_on : CallOn k means (call_of (get_or calls_now i x)) before after answer)
@@ -87,7 +85,7 @@ module _ {N P : Type 0} {G : NetlistGhosts N P} {H : PriceGhosts P} (k : Kind P)
             (sym (get_or-set_same calls_now i call_left Look there_now)) this_row))
             (cases_lt j i)
 
-  pub run_ends : Laws k → Sound (means netlist) → (calls_now : List (Asked P)) (answers_now : List (Answer P)) (plan : Plan N P G H) (i count : ℕ) → i ≡ count → count ≡ min (length calls) (length answers)
+  pub run_ends : Laws k → Sound (means netlist) → (calls_now : List (Asked P)) (answers_now : List (Answer P)) (plan : Plan N P) (i count : ℕ) → i ≡ count → count ≡ min (length calls) (length answers)
       → SoFar k means netlist calls calls_now answers answers_now plan i → RunOf k (means netlist) calls calls_now answers answers_now count
   run_ends l s calls_now answers_now plan i count e as_many so_far = subst (λ n. RunOf k (means netlist) calls calls_now answers answers_now n) e (record {
     as_many = e ∙ as_many;

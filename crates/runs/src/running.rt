@@ -17,6 +17,7 @@ pub fn run<N: Netlist + Drop>(
 {
     let count = calls.len().min(answers.len());
     let mut plan = Plan::over(netlist);
+    // An index: both rows are written, and after `iter_mut` under `zip` a proof knows no item of either.
     for i in 0..count {
         answers[i] = plan.ask(&mut calls[i]);
     }

@@ -1,12 +1,12 @@
 -- Which lines say a command, by their first letter.
-use Rattle.std.proofs.Common.{◌≡◌, ℕ, ◌<◌, false, cond, eqb, List, [], ◌∷◌, ◌++◌, length, Some, None, decimal, sym, refl, ap, ◌∙◌, subst, append_assoc, arith}
-use Rattle.std.proofs.lemmas.Bool.{ne_eqb}
+use Rattle.std.proofs.Common.{◌≡◌, ℕ, ◌<◌, List, ◌∷◌, ◌++◌, Some, None, Option, decimal, sym, refl, ap, ◌∙◌, subst, append_assoc, arith}
+use Rattle.std.specs.Option.{option_map}
 use Rattle.script.specs.declared.commands.Command.{Command}
 use Rattle.script.specs.declared.commands.Command.TheVariants.{Strap, Mute, TakeBack, Split}
 use Rattle.script.specs.Commands.{spelled, Says, Understood}
 use Rattle.script.specs.Numbers.{IsNumber, NumberRead}
-use Rattle.script.specs.Pieces.{Without, Parted}
-use Rattle.script.proofs.Parts.{same_parts, has_byte, spaceless}
+use Rattle.script.specs.Pieces.{Parted}
+use Rattle.script.proofs.Parts.{same_parts, spaceless}
 
 pub nothing_said : {line : List ℕ} → ((command : Command) → Says line command → ⊥) → Understood line None
 nothing_said never = record {
@@ -41,49 +41,21 @@ mute_lines rest P f (Strap a b) s = absurd (apart (λ e. omega (arith, e)) s.byt
 mute_lines rest P f TakeBack s = absurd (apart (λ e. omega (arith, e)) s.bytes)
 mute_lines rest P f Split s = absurd (apart (λ e. omega (arith, e)) s.bytes)
 
--- a line that begins with b says only a take back, and one that begins with p only a split
-pub back_lines : (rest : List ℕ) (P : Command → Type 0) → (rest ≡ [] → P TakeBack) → (command : Command) → Says (98 ∷ rest) command → P command
-back_lines rest P f TakeBack s = let e : 98 ∷ rest ≡ 98 ∷ [] = s.bytes in f (cc)
-back_lines rest P f (Strap a b) s = absurd (apart (λ e. omega (arith, e)) s.bytes)
-back_lines rest P f (Mute n) s = absurd (apart (λ e. omega (arith, e)) s.bytes)
-back_lines rest P f Split s = absurd (apart (λ e. omega (arith, e)) s.bytes)
-
-pub split_lines : (rest : List ℕ) (P : Command → Type 0) → (rest ≡ [] → P Split) → (command : Command) → Says (112 ∷ rest) command → P command
-split_lines rest P f Split s = let e : 112 ∷ rest ≡ 112 ∷ [] = s.bytes in f (cc)
-split_lines rest P f (Strap a b) s = absurd (apart (λ e. omega (arith, e)) s.bytes)
-split_lines rest P f (Mute n) s = absurd (apart (λ e. omega (arith, e)) s.bytes)
-split_lines rest P f TakeBack s = absurd (apart (λ e. omega (arith, e)) s.bytes)
-
--- a line that begins with another letter, or with none, says nothing
-pub other_lines : (first : ℕ) (rest : List ℕ) → (first ≡ 115 → ⊥) → (first ≡ 109 → ⊥) → (first ≡ 98 → ⊥) → (first ≡ 112 → ⊥) → (command : Command) → Says (first ∷ rest) command → ⊥
-other_lines first rest no_s no_m no_b no_p (Strap a b) s = apart no_s s.bytes
-other_lines first rest no_s no_m no_b no_p (Mute n) s = apart no_m s.bytes
-other_lines first rest no_s no_m no_b no_p TakeBack s = apart no_b s.bytes
-other_lines first rest no_s no_m no_b no_p Split s = apart no_p s.bytes
-
-no_bytes : {a : ℕ} {x : List ℕ} → ◌≡◌ {A = List ℕ} [] (a ∷ x) → ⊥
-no_bytes e = omega (arith, ap length e)
-
-pub empty_line : (command : Command) → Says [] command → ⊥
-empty_line (Strap a b) s = no_bytes s.bytes
-empty_line (Mute n) s = no_bytes s.bytes
-empty_line TakeBack s = no_bytes s.bytes
-empty_line Split s = no_bytes s.bytes
-
-pub mute_said : (rest digits : List ℕ) (n : ℕ) → rest ≡ 32 ∷ digits → NumberRead digits (Some n) → Understood (109 ∷ rest) (Some (Mute n))
+mute_said : (rest digits : List ℕ) (n : ℕ) → rest ≡ 32 ∷ digits → NumberRead digits (Some n) → Understood (109 ∷ rest) (Some (Mute n))
 mute_said rest digits n e r =
     let is = r.only n refl in
     one_said (record { short = is.short; bytes = ap (λ xs. 109 ∷ xs) (e ∙ ap (λ xs. 32 ∷ xs) is.digits) })
     (mute_lines rest (λ other. Mute n ≡ other) (λ m small f. let same : digits ≡ decimal m = cc in
     let told = r.read m (record { short = small; digits = same }) in cc))
 
-pub mute_unsaid : (rest digits : List ℕ) → rest ≡ 32 ∷ digits → NumberRead digits None → Understood (109 ∷ rest) None
+mute_unsaid : (rest digits : List ℕ) → rest ≡ 32 ∷ digits → NumberRead digits None → Understood (109 ∷ rest) None
 mute_unsaid rest digits e r =
     nothing_said (mute_lines rest (λ _. ⊥) (λ m small f. let same : digits ≡ decimal m = cc in
     let told = r.read m (record { short = small; digits = same }) in let z : ◌≡◌ {A = ℕ} 0 1 = cc in omega arith))
 
-pub mute_unspaced : (rest : List ℕ) → ((xs : List ℕ) → rest ≡ 32 ∷ xs → ⊥) → Understood (109 ∷ rest) None
-mute_unspaced rest h = nothing_said (mute_lines rest (λ _. ⊥) (λ m small f. h (decimal m) f))
+pub mute_read : (rest digits : List ℕ) (net : Option ℕ) → rest ≡ 32 ∷ digits → NumberRead digits net → Understood (109 ∷ rest) (option_map Mute net)
+mute_read rest digits (Some n) e r = mute_said rest digits n e r
+mute_read rest digits None e r = mute_unsaid rest digits e r
 
 -- the two numbers of a strap, where what follows the first space is parted at the next
 pub strap_parts : (rest numbers before after : List ℕ) → rest ≡ 32 ∷ numbers → Parted 32 numbers before after → (P : Command → Type 0)
@@ -112,23 +84,3 @@ strap_unsaid rest numbers before after e p never = nothing_said (strap_parts res
 -- nothing read is no number
 pub unread : (bytes : List ℕ) (n : ℕ) → NumberRead bytes None → IsNumber bytes n → ⊥
 unread bytes n r is = let told = r.read n is in let z : ◌≡◌ {A = ℕ} 0 1 = cc in omega arith
-
-pub strap_unspaced : (rest : List ℕ) → ((xs : List ℕ) → rest ≡ 32 ∷ xs → ⊥) → Understood (115 ∷ rest) None
-strap_unspaced rest h = nothing_said (strap_lines rest (λ _. ⊥) (λ a b small_a small_b f. h _ f))
-
-pub strap_unparted : (rest numbers : List ℕ) → rest ≡ 32 ∷ numbers → Without 32 numbers → Understood (115 ∷ rest) None
-strap_unparted rest numbers e w =
-    nothing_said (strap_lines rest (λ _. ⊥) (λ a b small_a small_b f. let same : numbers ≡ decimal a ++ 32 ∷ decimal b = cc in has_byte 32 (decimal a) (decimal b) (subst (Without 32) same w)))
-
--- a letter alone
-pub back_understood : (rest : List ℕ) → Understood (98 ∷ rest) (cond (eqb (length rest) 0) (Some TakeBack) None)
-back_understood [] = one_said (record { short = tt; bytes = refl }) (back_lines [] (λ other. TakeBack ≡ other) (λ _. refl))
-back_understood (x ∷ xs) =
-    let long : eqb (length (x ∷ xs)) 0 ≡ false = ne_eqb (length (x ∷ xs)) 0 (λ e. omega (arith, e)) in
-    rw long (nothing_said (back_lines (x ∷ xs) (λ _. ⊥) (λ e. no_bytes (sym e))))
-
-pub split_understood : (rest : List ℕ) → Understood (112 ∷ rest) (cond (eqb (length rest) 0) (Some Split) None)
-split_understood [] = one_said (record { short = tt; bytes = refl }) (split_lines [] (λ other. Split ≡ other) (λ _. refl))
-split_understood (x ∷ xs) =
-    let long : eqb (length (x ∷ xs)) 0 ≡ false = ne_eqb (length (x ∷ xs)) 0 (λ e. omega (arith, e)) in
-    rw long (nothing_said (split_lines (x ∷ xs) (λ _. ⊥) (λ e. no_bytes (sym e))))

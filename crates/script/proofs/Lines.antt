@@ -1,7 +1,6 @@
 -- The lines of a script, one after another.
 use Rattle.std.proofs.Common.{◌≡◌, ℕ, ◌+◌, ◌<◌, ◌≤◌, false, eqb, List, [], ◌∷◌, ◌++◌, length, sym, refl, ap, ◌∙◌, inl, inr, ⊎_elim, arith}
 use Rattle.std.proofs.lemmas.Bool.{ne_eqb, cases_Bool}
-use Rattle.std.proofs.lemmas.List.{length-append}
 use Rattle.script.specs.Pieces.{Without, Parted}
 use Rattle.script.specs.Scripts.{onto_first, lines_of, FirstLine}
 
@@ -23,10 +22,6 @@ first_parted script line rest some p = record { some = some; ended = inl p; line
 
 pub first_alone : (script rest : List ℕ) → 0 < length script → Without 10 script → rest ≡ [] → FirstLine script script rest
 first_alone script rest some w e = record { some = some; ended = inr (refl, e, w); lines = lines_alone script some w ∙ ap (λ xs. script ∷ lines_of xs) (sym e) }
-
-pub rest_shorter : {script line rest : List ℕ} → FirstLine script line rest → length rest < length script
-rest_shorter {script} {line} {rest} first =
-    ⊎_elim (λ p. omega (arith, ap length p.whole, length-append line (10 ∷ rest))) (λ alone. omega (arith, ap length alone.1, first.some)) first.ended
 
 few_more : (byte : ℕ) (lines : List (List ℕ)) (n : ℕ) → length lines ≤ n → length (onto_first byte lines) ≤ n + 1
 few_more byte [] n few = omega arith

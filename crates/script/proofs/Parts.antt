@@ -1,8 +1,9 @@
 -- Bytes parted at a byte: there is one way.
-use Rattle.std.proofs.Common.{◌≡◌, ℕ, ◌^◌, ◌<◌, List, [], ◌∷◌, ◌++◌, decimal, refl, arith}
+use Rattle.std.proofs.Common.{◌≡◌, ℕ, zero, suc, ◌+◌, ◌^◌, ◌<◌, ◌≤◌, List, [], ◌∷◌, ◌++◌, length, get_or, take, drop, decimal, sym, refl, ap, ◌∙◌, arith}
+use Rattle.std.proofs.lemmas.List.{take-append-drop, drop_more}
 use Rattle.std.proofs.ByRecursion.{All-push}
 use Rattle.std.proofs.lemmas.Fmt.{decimal_by_steps}
-use Rattle.script.specs.Pieces.{Without}
+use Rattle.script.specs.Pieces.{Without, Parted}
 
 -- a part that has the byte is not without it
 pub has_byte : (byte : ℕ) (before after : List ℕ) → Without byte (before ++ byte ∷ after) → ⊥
@@ -27,3 +28,16 @@ same_parts byte (b ∷ before) after (b' ∷ before') after' h h' e =
 pub spaceless : (n : ℕ) → n < 2 ^ 64 → Without 32 (decimal n)
 spaceless =
     decimal_by_steps (λ n ds. Without 32 ds) (λ n small. (λ e. omega (arith, e), tt)) (λ n ds large h. All-push (λ b. b ≡ 32 → ⊥) ds _ h (λ e. omega (arith, e)))
+
+without_before : (byte at : ℕ) (bytes : List ℕ) → ((k : ℕ) → k < at → get_or bytes k 0 ≡ byte → ⊥) → at ≤ length bytes → Without byte (take at bytes)
+without_before byte zero bytes h inside = tt
+without_before byte (suc at) [] h inside = absurd (omega arith)
+without_before byte (suc at) (b ∷ bytes) h inside = (h 0 (omega arith), without_before byte at bytes (λ k below. h (suc k) (omega arith)) (omega arith))
+
+-- the bytes parted at a place that has the byte first
+pub parted_at : (byte at : ℕ) (bytes : List ℕ) → at < length bytes → get_or bytes at 0 ≡ byte → ((k : ℕ) → k < at → get_or bytes k 0 ≡ byte → ⊥)
+    → Parted byte bytes (take at bytes) (drop (at + 1) bytes)
+parted_at byte at bytes inside here before = record {
+  whole = sym (take-append-drop at bytes) ∙ ap (λ xs. take at bytes ++ xs) (drop_more bytes at 0 inside ∙ ap (λ b. b ∷ drop (at + 1) bytes) here);
+  first = without_before byte at bytes before (omega arith);
+}

@@ -10,9 +10,7 @@ use crate::pieces::part_at;
 pub fn parse(line: &[u8]) -> Option<Command>
     ensures { Understood line.now result }
 {
-    let Some((first, rest)) = line.split_first() else {
-        return None;
-    };
+    let (first, rest) = line.split_first()?;
     match *first as char {
         's' => parse_strap(rest),
         'm' => parse_mute(rest),
@@ -26,18 +24,9 @@ pub fn parse(line: &[u8]) -> Option<Command>
 fn parse_strap(rest: &[u8]) -> Option<Command>
     ensures { Understood (115 ∷ rest.now) result }
 {
-    let Some(numbers) = after_space(rest) else {
-        return None;
-    };
-    let Some(pieces) = part_at(numbers, b' ') else {
-        return None;
-    };
-    let Some(a) = number(pieces.before) else {
-        return None;
-    };
-    let Some(b) = number(pieces.after) else {
-        return None;
-    };
+    let pieces = part_at(after_space(rest)?, b' ')?;
+    let a = number(pieces.before)?;
+    let b = number(pieces.after)?;
     Some(Command::Strap(a, b))
 }
 
@@ -45,28 +34,19 @@ fn parse_strap(rest: &[u8]) -> Option<Command>
 fn parse_mute(rest: &[u8]) -> Option<Command>
     ensures { Understood (109 ∷ rest.now) result }
 {
-    let Some(digits) = after_space(rest) else {
-        return None;
-    };
-    match number(digits) {
-        Some(net) => Some(Command::Mute(net)),
-        None => None,
-    }
+    number(after_space(rest)?).map(Command::Mute)
 }
 
 /// The command, where nothing follows its letter.
 fn alone(rest: &[u8], command: Command) -> Option<Command>
     ensures { result ≡ (if nat_eq (length rest.now) 0 then Some command else None) }
 {
-    if rest.is_empty() { Some(command) } else { None }
+    rest.is_empty().then_some(command)
 }
 
 /// What follows a space.
 fn after_space(bytes: &[u8]) -> Option<&[u8]>
     ensures { MatchOption result ((rest : List ℕ) → bytes.now ≢ 32 ∷ rest) (λ rest. bytes.now ≡ 32 ∷ rest.now) }
 {
-    let Some((first, rest)) = bytes.split_first() else {
-        return None;
-    };
-    if *first == b' ' { Some(rest) } else { None }
+    bytes.strip_prefix(b" ")
 }

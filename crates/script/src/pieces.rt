@@ -13,13 +13,9 @@ pub(crate) struct Pieces<'a> {
 pub(crate) fn part_at(bytes: &[u8], byte: u8) -> Option<Pieces<'_>>
     ensures { MatchOption result (Without byte bytes.now) (λ p. Parted byte bytes.now p.before.now p.after.now) }
 {
-    for i in 0..bytes.len() {
-        if bytes[i] == byte {
-            return Some(Pieces {
-                before: &bytes[0..i],
-                after: &bytes[i + 1..],
-            });
-        }
-    }
-    None
+    let at = bytes.iter().position(|b| *b == byte)?;
+    Some(Pieces {
+        before: &bytes[..at],
+        after: &bytes[at + 1..],
+    })
 }

@@ -1,6 +1,7 @@
 //! The lines of a script.
 ghost use Rattle.std.specs.Prelude.{◌≡◌, [], length, MatchOption};
 ghost use Rattle.script.specs.Scripts.{FirstLine, lines_of};
+ghost use Rattle.script.specs.LinesLeft.{lines_left};
 
 use crate::pieces::part_at;
 
@@ -25,8 +26,39 @@ pub fn next_line(script: &[u8]) -> Option<NextLine<'_>>
         }),
         None => Some(NextLine {
             line: script,
-            rest: &script[script.len()..],
+            rest: &[],
         }),
+    }
+}
+
+/// The lines of a script that are left, each without its byte 0x0A.
+#[derive(Drop)]
+pub struct Lines<'a> {
+    rest: &'a [u8],
+}
+
+impl<'a> Lines<'a> {
+    /// All lines of a script.
+    pub fn of(script: &'a [u8]) -> Lines<'a>
+        ensures { lines_left result ≡ lines_of script.now }
+    {
+        Lines { rest: script }
+    }
+}
+
+impl<'a> Iterator for Lines<'a> {
+    type Item = &'a [u8];
+
+    ghost use Rattle.std.specs.Iterator.{YieldsFirstBy, item_count};
+
+    ghost next_gives = { YieldsFirstBy (λ line. line.now) lines_left };
+
+    ghost remaining = { item_count lines_left };
+
+    fn next(&mut self) -> Option<&'a [u8]> {
+        let next = next_line(self.rest)?;
+        self.rest = next.rest;
+        Some(next.line)
     }
 }
 
@@ -34,11 +66,5 @@ pub fn next_line(script: &[u8]) -> Option<NextLine<'_>>
 pub fn line_count(script: &[u8]) -> usize
     ensures { result ≡ length (lines_of script.now) }
 {
-    let mut count = 0;
-    let mut rest = script;
-    while let Some(next) = next_line(rest) {
-        count += 1;
-        rest = next.rest;
-    }
-    count
+    Lines::of(script).count()
 }

@@ -2,15 +2,10 @@
 #![tactic(auto)]
 
 use printing::kinds::print_all;
+use printing::limits::{PAGE_READ, SCRIPT_READ};
 use std::fs::File;
 use std::io;
 use std::io::{Read, Write};
-
-// One byte more than the longest page has, so that a byte that follows is seen.
-const PAGE_READ: u64 = 54148;
-
-// One byte more than a script may have, so that a longer one is seen.
-const SCRIPT_READ: u64 = 65537;
 
 fn main(rt: HostRuntime) -> anyhow::Result<()> {
     let page = named(&rt, "bench.page", read_page(&rt))?;
@@ -20,18 +15,20 @@ fn main(rt: HostRuntime) -> anyhow::Result<()> {
     Ok(())
 }
 
+// `splitter` opens it too: a library's function says what it answers, and no contract can say what a file gives.
 fn read_page(rt: &HostRuntime) -> io::Result<Vec<u8>> {
-    let mut page = Vec::new(rt.alloc());
-    File::open(rt, "bench.page")?
-        .take(PAGE_READ)
-        .read_to_end(&mut page)?;
-    Ok(page)
+    read_most(rt, File::open(rt, "bench.page")?, PAGE_READ)
 }
 
 fn read_script(rt: &HostRuntime) -> io::Result<Vec<u8>> {
-    let mut script = Vec::new(rt.alloc());
-    rt.stdin().take(SCRIPT_READ).read_to_end(&mut script)?;
-    Ok(script)
+    read_most(rt, rt.stdin(), SCRIPT_READ)
+}
+
+// What the source gives, up to so many bytes.
+fn read_most<R: Read + Drop>(rt: &HostRuntime, source: R, most: u64) -> io::Result<Vec<u8>> {
+    let mut bytes = Vec::new(rt.alloc());
+    source.take(most).read_to_end(&mut bytes)?;
+    Ok(bytes)
 }
 
 // Says on standard error what could not be read.

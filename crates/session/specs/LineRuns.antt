@@ -1,12 +1,9 @@
 -- What running a script line on a plan writes and leaves.
-use Rattle.std.specs.Prelude.{◌≡◌, ℕ, ◌+◌, ◌<◌, ◌≤◌, List, ◌++◌, length, take, drop, Some, None, Ok, Err, Option, Result}
+use Rattle.std.specs.Prelude.{◌≡◌, ℕ, ◌<◌, ◌≤◌, List, length, Some, None, Ok, Err, Option, Result}
 use Rattle.refusal.specs.declared.Fault.{Fault}
 use Rattle.refusal.specs.declared.Fault.TheVariants.{TooShort, LineNotUnderstood}
 use Rattle.price.specs.Kind.{Kind}
 use Rattle.netlist.specs.Meaning.{Meaning, homes}
-use Rattle.cut.specs.declared.found.FoundSplit.{FoundSplit}
-use Rattle.price.specs.declared.Price.{Ghosts as PriceGhosts}
-use Rattle.netlist.specs.declared.Netlist.{Ghosts as NetlistGhosts}
 use Rattle.plan.specs.declared.plans.Plan.{Plan}
 use Rattle.plan.specs.declared.calls.Answer.{Answer}
 use Rattle.plan.specs.declared.calls.Answer.TheVariants.{Done, Refused, Found, Absent}
@@ -33,14 +30,10 @@ line_of k (Refused fault) = Some (lines.Refused fault)
 line_of k (Found s) = Some (lines.Found s.sides (k.word s.price))
 line_of k Absent = None
 
--- the line of a change or take back, and that of a split
-abbrev pub change_told : Result (Unit {0}) Fault → Line
-change_told (Ok _) = lines.Accepted
-change_told (Err fault) = lines.Refused fault
-
-abbrev pub split_told : {P : Type 0} → Kind P → Result (FoundSplit P) Fault → Line
-split_told k (Ok s) = lines.Found s.sides (k.word s.price)
-split_told k (Err fault) = lines.Refused fault
+-- the line that tells what a call answered: its own, or its refusal
+abbrev pub line_told : Result Line Fault → Line
+line_told (Ok line) = line
+line_told (Err fault) = lines.Refused fault
 
 -- the cells after a call: a split's are left as a split leaves them
 abbrev pub cells_after : {P : Type 0} → Kind P → Option Fault → ℕ → Call → List P → List P
@@ -51,78 +44,45 @@ cells_after k refused count (split n) cells = cells_left k refused count cells
 cells_after k refused count look cells = cells
 
 -- A command run on a plan: its call is answered and leaves the plan as reckoned, and this line tells the answer.
-pub record CommandRun {N P : Type 0} {G : NetlistGhosts N P} {H : PriceGhosts P} (k : Kind P) (means : N → Meaning P) (command : Command) (before after : Plan N P G H) (cells cells' : List P) (told : Line) : Type 0 where
+pub record CommandRun {N P : Type 0} (k : Kind P) (means : N → Meaning P) (command : Command) (before after : Plan N P) (cells cells' : List P) (told : Line) : Type 0 where
   pub answer : Answer P
   pub call : CallOn k means (call_of command (length cells)) before after answer
   pub tells : line_of k answer ≡ Some told
   pub cells_are : cells' ≡ cells_after k (refusal_on means before (call_of command (length cells))) (homes (means before.below)) (call_of command (length cells)) cells
 
 -- A command that the line says is run and its answer written.
-pub record CommandWritten {N P : Type 0} {G : NetlistGhosts N P} {H : PriceGhosts P} (k : Kind P) (means : N → Meaning P) (command : Command) (before after : Plan N P G H) (cells cells' : List P)
+pub record CommandWritten {N P : Type 0} (k : Kind P) (means : N → Meaning P) (command : Command) (before after : Plan N P) (cells cells' : List P)
     (out out' : List ℕ) (r : Result ℕ Fault) : Type 0 where
   pub told : Line
   pub run : CommandRun k means command before after cells cells' told
   pub written : Written (line_bytes told) out out' r
 
 -- Where the line says no command, that is written, and the plan and the cells stay.
-pub record NotUnderstood {N P : Type 0} {G : NetlistGhosts N P} {H : PriceGhosts P} (before after : Plan N P G H) (cells cells' : List P) (out out' : List ℕ) (r : Result ℕ Fault) : Type 0 where
+pub record NotUnderstood {N P : Type 0} (before after : Plan N P) (cells cells' : List P) (out out' : List ℕ) (r : Result ℕ Fault) : Type 0 where
   pub plan_stays : after ≡ before
   pub cells_stay : cells' ≡ cells
   pub written : Written (refused_line LineNotUnderstood) out out' r
 
 -- A buffer of fewer than 37 bytes is refused, and everything stays.
-pub record BufferRefused {N P : Type 0} {G : NetlistGhosts N P} {H : PriceGhosts P} (before after : Plan N P G H) (cells cells' : List P) (out out' : List ℕ) (r : Result ℕ Fault) : Type 0 where
+pub record BufferRefused {N P : Type 0} (before after : Plan N P) (cells cells' : List P) (out out' : List ℕ) (r : Result ℕ Fault) : Type 0 where
   pub refused : r ≡ Err (TooShort 1)
   pub plan_stays : after ≡ before
   pub cells_stay : cells' ≡ cells
   pub buffer_stays : out' ≡ out
 
 -- the command that a line says is run, or it is told that there is none
-abbrev pub Outcome : {N P : Type 0} {G : NetlistGhosts N P} {H : PriceGhosts P} → Option Command → Kind P → (N → Meaning P) → Plan N P G H → Plan N P G H → List P → List P → List ℕ → List ℕ → Result ℕ Fault → Type 0
+abbrev pub Outcome : {N P : Type 0} → Option Command → Kind P → (N → Meaning P) → Plan N P → Plan N P → List P → List P → List ℕ → List ℕ → Result ℕ Fault → Type 0
 Outcome (Some command) k means before after cells cells' out out' r = CommandWritten k means command before after cells cells' out out' r
 Outcome None k means before after cells cells' out out' r = NotUnderstood before after cells cells' out out' r
 
-pub record LineRun {N P : Type 0} {G : NetlistGhosts N P} {H : PriceGhosts P} (k : Kind P) (means : N → Meaning P) (line : List ℕ) (before after : Plan N P G H) (cells cells' : List P)
+pub record LineRun {N P : Type 0} (k : Kind P) (means : N → Meaning P) (line : List ℕ) (before after : Plan N P) (cells cells' : List P)
     (out out' : List ℕ) (r : Result ℕ Fault) : Type 0 where
   pub found : Option Command
   pub understood : Understood line found
   pub outcome : Outcome found k means before after cells cells' out out' r
 
 -- A line run into a buffer.
-pub record RunLine {N P : Type 0} {G : NetlistGhosts N P} {H : PriceGhosts P} (k : Kind P) (means : N → Meaning P) (line : List ℕ) (before after : Plan N P G H) (cells cells' : List P)
+pub record RunLine {N P : Type 0} (k : Kind P) (means : N → Meaning P) (line : List ℕ) (before after : Plan N P) (cells cells' : List P)
     (out out' : List ℕ) (r : Result ℕ Fault) : Type 0 where
   pub short : length out < 37 → BufferRefused before after cells cells' out out' r
   pub long : 37 ≤ length out → LineRun k means line before after cells cells' out out' r
-
--- Bytes put at a position of a buffer: what stands before and after stays, and `next` is the position after them.
-pub record PutAt (at : ℕ) (bytes out out' : List ℕ) (next : ℕ) : Type 0 where
-  pub short : length bytes ≤ 37
-  pub next_is : next ≡ at + length bytes
-  pub before_stays : take at out' ≡ take at out
-  pub after_is : drop at out' ≡ bytes ++ drop next out
-
--- A command's call answered, and the line that tells the answer put at a position.
-pub record ToldAt {N P : Type 0} {G : NetlistGhosts N P} {H : PriceGhosts P} (k : Kind P) (means : N → Meaning P) (call : Call) (before after : Plan N P G H) (cells cells' : List P)
-    (at : ℕ) (out out' : List ℕ) (next : ℕ) : Type 0 where
-  pub answer : Answer P
-  pub told : Line
-  pub answered : CallOn k means call before after answer
-  pub tells : line_of k answer ≡ Some told
-  pub cells_are : cells' ≡ cells_after k (refusal_on means before call) (homes (means before.below)) call cells
-  pub put : PutAt at (line_bytes told) out out' next
-
-pub record UntoldAt {N P : Type 0} {G : NetlistGhosts N P} {H : PriceGhosts P} (before after : Plan N P G H) (cells cells' : List P) (at : ℕ) (out out' : List ℕ) (next : ℕ) : Type 0 where
-  pub plan_stays : after ≡ before
-  pub cells_stay : cells' ≡ cells
-  pub put : PutAt at (refused_line LineNotUnderstood) out out' next
-
-abbrev pub OutcomeAt : {N P : Type 0} {G : NetlistGhosts N P} {H : PriceGhosts P} → Option Command → Kind P → (N → Meaning P) → Plan N P G H → Plan N P G H → List P → List P → ℕ → List ℕ → List ℕ → ℕ → Type 0
-OutcomeAt (Some command) k means before after cells cells' at out out' next = ToldAt k means (call_of command (length cells)) before after cells cells' at out out' next
-OutcomeAt None k means before after cells cells' at out out' next = UntoldAt before after cells cells' at out out' next
-
--- A line run with its answer put at a position.
-pub record LineAt {N P : Type 0} {G : NetlistGhosts N P} {H : PriceGhosts P} (k : Kind P) (means : N → Meaning P) (line : List ℕ) (before after : Plan N P G H) (cells cells' : List P)
-    (at : ℕ) (out out' : List ℕ) (next : ℕ) : Type 0 where
-  pub found : Option Command
-  pub understood : Understood line found
-  pub outcome : OutcomeAt found k means before after cells cells' at out out' next

@@ -1,8 +1,6 @@
 //! A script line run on a plan.
-ghost use Rattle.std.specs.Prelude.{◌≡◌};
-ghost use Rattle.session.specs.LineRuns.{CommandRun, RunLine, change_told, split_told};
+ghost use Rattle.session.specs.LineRuns.{CommandRun, RunLine, line_told};
 
-use cut::found::FoundSplit;
 use lines::LINE_ROOM;
 use lines::writing::{Line, write_line};
 use netlist::Netlist;
@@ -26,49 +24,28 @@ pub fn run_line<N: Netlist>(
     if out.len() < LINE_ROOM {
         return Err(Fault::TooShort { table: 1 });
     }
-    match parse(line) {
-        Some(command) => {
-            let told = run_command(plan, cells, command);
-            write_line(told, out)
-        }
-        None => {
-            let fault = Fault::LineNotUnderstood;
-            write_line(Line::Refused { fault }, out)
-        }
-    }
+    let Some(command) = parse(line) else {
+        return write_line(Fault::LineNotUnderstood.into(), out);
+    };
+    let told = run_command(plan, cells, command).unwrap_or_else(Line::from);
+    write_line(told, out)
 }
 
-/// Makes the call that a command says.
-fn run_command<N: Netlist>(plan: &mut Plan<N>, cells: &mut [N::Price], command: Command) -> Line
-    ensures { CommandRun N.Price.Price.kind N.Netlist.meaning command plan.old plan.new cells.old cells.new result }
+/// Makes the call that a command says: the line of its answer, or why it is refused.
+fn run_command<N: Netlist>(
+    plan: &mut Plan<N>,
+    cells: &mut [N::Price],
+    command: Command,
+) -> Result<Line, Fault>
+    ensures { CommandRun N.Price.Price.kind N.Netlist.meaning command plan.old plan.new cells.old cells.new (line_told result) }
 {
     match command {
-        Command::Strap(a, b) => change_line(plan.strap(a, b)),
-        Command::Mute(net) => change_line(plan.mute(net)),
-        Command::TakeBack => change_line(plan.take_back()),
-        Command::Split => split_line(plan.split(cells)),
-    }
-}
-
-/// The line of a change or take back.
-fn change_line(res: Result<(), Fault>) -> Line
-    ensures { result ≡ change_told res }
-{
-    match res {
-        Ok(()) => Line::Accepted,
-        Err(fault) => Line::Refused { fault },
-    }
-}
-
-/// The line of a split.
-fn split_line<P: Price>(res: Result<FoundSplit<P>, Fault>) -> Line
-    ensures { result ≡ split_told P.kind res }
-{
-    match res {
-        Ok(found) => Line::Found {
+        Command::Strap(a, b) => plan.strap(a, b).map(|()| Line::Accepted),
+        Command::Mute(net) => plan.mute(net).map(|()| Line::Accepted),
+        Command::TakeBack => plan.take_back().map(|()| Line::Accepted),
+        Command::Split => plan.split(cells).map(|found| Line::Found {
             sides: found.sides,
             word: found.price.print_word(),
-        },
-        Err(fault) => Line::Refused { fault },
+        }),
     }
 }

@@ -2,8 +2,6 @@
 #![tactic(auto)]
 
 #[cfg(test)]
-mod five_modules;
-#[cfg(test)]
 mod order_tests;
 #[cfg(test)]
 mod split_tests;

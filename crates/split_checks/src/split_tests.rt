@@ -1,6 +1,7 @@
 //! Splits: sides words and prices of the five-module netlist in each kind, and what is refused.
-use crate::five_modules::{PINS, STARTS, TIMERS_FIRST, WIDEST, WIRES};
 use cut::found::FoundSplit;
+use fixtures::five_modules::{PINS, STARTS, TIMERS_FIRST, WIDEST, WIRES};
+use fixtures::{SEVEN, ZERO, number_of, told, wires};
 use layers::mute::MuteLayer;
 use layers::strap::StrapLayer;
 use netlist::Netlist;
@@ -9,18 +10,6 @@ use pin_tables::PinTables;
 use price::Price;
 use price::values::{TimersFirst, Widest, Wires};
 use refusal::Place;
-use std::test::Fail;
-
-const SEVEN: Wires = Wires { count: 7 };
-
-const ZERO: Wires = Wires { count: 0 };
-
-fn wires(sides: u64, count: u64) -> Option<FoundSplit<Wires>> {
-    Some(FoundSplit {
-        sides,
-        price: Wires { count },
-    })
-}
 
 #[test]
 fn five_modules_in_wires(rt: HostRuntime) {
@@ -28,21 +17,21 @@ fn five_modules_in_wires(rt: HostRuntime) {
     assert!(rt; netlist.load(5, &STARTS, &PINS, &WIRES).is_ok());
     let mut cells = [SEVEN; 6];
     assert_eq!(rt;
-        split(&netlist, &mut cells).ok(),
-        wires(0x1800_0000_0000_0000, 3)
+        split(&netlist, &mut cells),
+        Ok(wires(0x1800_0000_0000_0000, 3))
     );
     assert_eq!(rt; cells, [ZERO, ZERO, ZERO, ZERO, ZERO, SEVEN]);
     let mut strapped = StrapLayer::over(netlist);
     assert!(rt; strapped.strap(2, 4).is_ok());
     assert_eq!(rt;
-        split(&strapped, &mut cells).ok(),
-        wires(0x3800_0000_0000_0000, 4)
+        split(&strapped, &mut cells),
+        Ok(wires(0x3800_0000_0000_0000, 4))
     );
     let mut muted = MuteLayer::over(strapped);
     assert!(rt; muted.mute(0).is_ok());
     assert_eq!(rt;
-        split(&muted, &mut cells).ok(),
-        wires(0x4000_0000_0000_0000, 2)
+        split(&muted, &mut cells),
+        Ok(wires(0x4000_0000_0000_0000, 2))
     );
 }
 
@@ -54,10 +43,7 @@ fn five_modules_in_widest(rt: HostRuntime) {
         sides: 0x1800_0000_0000_0000,
         price: Widest { width: 2 },
     };
-    assert_eq!(rt;
-        split(&netlist, &mut [Widest { width: 7 }; 5]).ok(),
-        Some(found)
-    );
+    assert_eq!(rt; split(&netlist, &mut [Widest { width: 7 }; 5]), Ok(found));
 }
 
 #[test]
@@ -78,9 +64,8 @@ fn five_modules_in_timers_first(rt: HostRuntime) {
                 timers: 7,
                 wires: 7,
             }; 5],
-        )
-        .ok(),
-        Some(found)
+        ),
+        Ok(found)
     );
 }
 
@@ -89,39 +74,27 @@ fn three_modules_without_nets(rt: HostRuntime) {
     let mut netlist = PinTables::empty();
     assert!(rt; netlist.load(3, &[0], &[], &[]).is_ok());
     assert_eq!(rt;
-        split(&netlist, &mut [SEVEN; 3]).ok(),
-        wires(0x2000_0000_0000_0000, 0)
+        split(&netlist, &mut [SEVEN; 3]),
+        Ok(wires(0x2000_0000_0000_0000, 0))
     );
 }
 
 #[test]
-fn splits_refused(rt: HostRuntime) -> Result<(), Fail> {
+fn splits_refused(rt: HostRuntime) {
     let mut netlist = PinTables::empty();
     assert!(rt; netlist.load(5, &STARTS, &PINS, &WIRES).is_ok());
     let mut cells = [SEVEN; 4];
-    let fault = split(&netlist, &mut cells).err().ok_or("accepted")?;
-    assert_eq!(rt; fault.number(), 10);
-    assert_eq!(rt; fault.place(), Place::Table(1));
+    let answer = split(&netlist, &mut cells);
+    assert_eq!(rt; told(answer), Some((10, Place::Table(1))));
     assert_eq!(rt; cells, [SEVEN; 4]);
-    Ok(())
 }
 
 #[test]
-fn one_group_has_no_split(rt: HostRuntime) -> Result<(), Fail> {
+fn one_group_has_no_split(rt: HostRuntime) {
     let mut netlist = PinTables::empty();
     assert!(rt; netlist.load(1, &[0], &[], &[]).is_ok());
     let mut cells = [SEVEN; 1];
-    assert_eq!(rt;
-        split(&netlist, &mut cells)
-            .err()
-            .ok_or("accepted")?
-            .number(),
-        17
-    );
-    assert_eq!(rt;
-        split(&netlist, &mut []).err().ok_or("accepted")?.number(),
-        10
-    );
+    assert_eq!(rt; number_of(split(&netlist, &mut cells)), Some(17));
+    assert_eq!(rt; number_of(split(&netlist, &mut [])), Some(10));
     assert_eq!(rt; cells, [SEVEN; 1]);
-    Ok(())
 }

@@ -8,7 +8,7 @@ use Rattle.netlist.specs.Places.{place}
 use Rattle.netlist.specs.Meaning.{Meaning, Sound, homes}
 use Rattle.netlist.specs.Changes.{strapped, united, muted_also}
 use Rattle.layers.specs.Layered.{muted_by_either}
-use Rattle.layers.specs.Refusals.{strap_fault, mute_fault}
+use Rattle.layers.specs.Refusals.{strap_fault, mute_fault, Checked}
 use Rattle.layers.specs.Changed.{Straps, Mutes}
 use Rattle.standing.specs.declared.change.Change.{Change}
 use Rattle.standing.specs.declared.change.Change.TheVariants.{Strapped, Muted}
@@ -62,6 +62,15 @@ module _ {P : Type 0} where
           (sym (cond-true (ltb n (length m.nets)) (cond (get_or m.muted n false) (Some AlreadyMuted) None) (Some NoSuchNet) (lt-ltb n (length m.nets) (omega arith))) ∙ e)
 
   module _ {L : Type 0} (means : L → Meaning P) (old new : L) where
+    -- what the layers tell of a strap and of a mute
+    pub straps_checked : (a b : ℕ) (r : Result (Unit {0}) Fault) → Straps means a b old new r → Checked (strap_fault a b (means old)) r
+    straps_checked a b (Ok _) h = h.0
+    straps_checked a b (Err fault) h = h.0
+
+    pub mutes_checked : (n : ℕ) (r : Result (Unit {0}) Fault) → Mutes means n old new r → Checked (mute_fault n (means old)) r
+    mutes_checked n (Ok _) h = h.0
+    mutes_checked n (Err fault) h = h.0
+
     straps_apply : (a b : ℕ) (r : Result (Unit {0}) Fault) → Straps means a b old new r → means new ≡ apply (Strapped a b) (means old)
     straps_apply a b (Ok _) h = h.1 ∙ strap_changes a b (means old) h.0
     straps_apply a b (Err fault) h = ap means h.1 ∙ strap_stays a b (means old) fault h.0

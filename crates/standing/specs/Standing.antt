@@ -1,7 +1,9 @@
 -- The netlist below a plan with the standing changes applied.
-use Rattle.std.specs.Prelude.{ℕ, zero, suc, cond, ◌&&◌, List, [], ◌∷◌, nat_lt, slice_index_or}
+use Rattle.std.specs.Prelude.{ℕ, zero, suc, cond, ◌&&◌, List, [], ◌∷◌, Option, nat_lt, slice_index_or}
+use Rattle.refusal.specs.declared.Fault.{Fault}
 use Rattle.netlist.specs.Meaning.{Meaning, homes}
 use Rattle.netlist.specs.Changes.{strapped, muted_also}
+use Rattle.layers.specs.Refusals.{strap_fault, mute_fault}
 use Rattle.standing.specs.declared.change.Change.{Change}
 use Rattle.standing.specs.declared.change.Change.TheVariants.{Strapped, Muted}
 
@@ -9,6 +11,11 @@ use Rattle.standing.specs.declared.change.Change.TheVariants.{Strapped, Muted}
 abbrev pub apply : {P : Type 0} → Change → Meaning P → Meaning P
 apply (Strapped a b) m = cond (nat_lt a (homes m) && nat_lt b (homes m)) (strapped a b m) m
 apply (Muted n) m = muted_also n m
+
+-- why a change is refused, as the layers refuse it
+abbrev pub change_fault : {P : Type 0} → Change → Meaning P → Option Fault
+change_fault (Strapped a b) m = strap_fault a b m
+change_fault (Muted n) m = mute_fault n m
 
 -- the changes stand the latest first
 abbrev pub applied : {P : Type 0} → Meaning P → List Change → Meaning P

@@ -2,7 +2,8 @@
 #![tactic(auto)]
 
 ghost use Rattle.std.specs.Prelude.{◌≡◌, length};
-ghost use Rattle.standing.specs.Standing.{apply, applied, latest_first};
+ghost use Rattle.layers.specs.Refusals.{Checked};
+ghost use Rattle.standing.specs.Standing.{apply, applied, change_fault, latest_first};
 ghost use Rattle.standing.specs.LentMeaning.{layers_meaning, standing_meaning};
 
 use crate::change::Change;
@@ -10,6 +11,7 @@ use crate::lent::Lent;
 use layers::mute::MuteLayer;
 use layers::strap::StrapLayer;
 use netlist::Netlist;
+use refusal::Fault;
 
 pub mod change;
 pub mod lent;
@@ -22,22 +24,22 @@ pub fn standing<'a, N: Netlist>(
     ensures { standing_meaning N.Netlist.meaning result ≡ applied (N.Netlist.meaning netlist.now) (latest_first (length changes.now) changes.now) }
 {
     let mut layers = MuteLayer::over(StrapLayer::over(Lent { netlist }));
-    for i in 0..changes.len() {
-        apply_change(&mut layers, changes[i]);
+    for change in changes {
+        let _ = apply_change(&mut layers, *change);
     }
     layers
 }
 
-/// Applies a change; one that the layers refuse changes nothing.
-fn apply_change<N: Netlist>(layers: &mut MuteLayer<StrapLayer<N>>, change: Change)
-    ensures { layers_meaning N.Netlist.meaning layers.new ≡ apply change (layers_meaning N.Netlist.meaning layers.old) }
+/// Applies a change. One that the layers refuse changes nothing, and is answered by their refusal.
+pub fn apply_change<N: Netlist>(
+    layers: &mut MuteLayer<StrapLayer<N>>,
+    change: Change,
+) -> Result<(), Fault>
+    ensures applies { layers_meaning N.Netlist.meaning layers.new ≡ apply change (layers_meaning N.Netlist.meaning layers.old) }
+    ensures checked { Checked (change_fault change (layers_meaning N.Netlist.meaning layers.old)) result }
 {
     match change {
-        Change::Strapped(a, b) => {
-            let _ = layers.below.strap(a, b);
-        }
-        Change::Muted(net) => {
-            let _ = layers.mute(net);
-        }
+        Change::Strapped(a, b) => layers.below.strap(a, b),
+        Change::Muted(net) => layers.mute(net),
     }
 }

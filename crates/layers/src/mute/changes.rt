@@ -35,14 +35,9 @@ impl<N: Netlist> MuteLayer<N> {
         ensures { Checked (mute_fault net (mute_meaning N.Netlist.meaning self.now)) result }
     {
         match self.is_muted(net) {
-            Some(muted) => {
-                if muted {
-                    Err(Fault::AlreadyMuted)
-                } else {
-                    Ok(())
-                }
-            }
             None => Err(Fault::NoSuchNet),
+            Some(true) => Err(Fault::AlreadyMuted),
+            Some(false) => Ok(()),
         }
     }
 }

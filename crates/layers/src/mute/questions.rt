@@ -37,22 +37,16 @@ impl<N: Netlist> Netlist for MuteLayer<N> {
     }
 
     fn price(&self, net: usize) -> Option<N::Price> {
-        match self.below.price(net) {
-            Some(price) => {
-                if self.row[net] {
-                    Some(N::Price::zero())
-                } else {
-                    Some(price)
-                }
-            }
-            None => None,
+        let price = self.below.price(net)?;
+        if self.row[net] {
+            Some(N::Price::zero())
+        } else {
+            Some(price)
         }
     }
 
     fn is_muted(&self, net: usize) -> Option<bool> {
-        match self.below.is_muted(net) {
-            Some(muted) => Some(muted | self.row[net]),
-            None => None,
-        }
+        let muted = self.below.is_muted(net)?;
+        Some(muted || self.row[net])
     }
 }

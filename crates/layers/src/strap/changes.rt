@@ -1,7 +1,5 @@
 //! A strap layer made, and home modules strapped in it.
-ghost use Rattle.std.specs.Prelude.{◌≡◌, ℕ, ◌<◌, length};
-ghost use Rattle.netlist.specs.Places.{place as place_of};
-ghost use Rattle.netlist.specs.Changes.{united as united_row, united_place_lem as place_united};
+ghost use Rattle.std.specs.Prelude.{◌≡◌};
 ghost use Rattle.layers.specs.Layered.{strap_meaning};
 ghost use Rattle.layers.specs.Refusals.{Ends, HomePlace};
 ghost use Rattle.layers.specs.Changed.{Straps};
@@ -9,6 +7,7 @@ ghost use Rattle.layers.specs.Changed.{Straps};
 use crate::strap::StrapLayer;
 use netlist::Netlist;
 use refusal::Fault;
+use rows::{singles, united_row};
 
 impl<N: Netlist> StrapLayer<N> {
     /// A layer that means what it stands on.
@@ -17,7 +16,7 @@ impl<N: Netlist> StrapLayer<N> {
     {
         StrapLayer {
             below,
-            row: each_alone(),
+            row: singles(),
         }
     }
 
@@ -28,7 +27,7 @@ impl<N: Netlist> StrapLayer<N> {
         ensures below { self.new.below ≡ self.old.below }
     {
         let (v, w) = self.ends(a, b)?;
-        self.row = united(self.row, v, w);
+        self.row = united_row(self.row, v, w);
         Ok(())
     }
 
@@ -48,44 +47,6 @@ impl<N: Netlist> StrapLayer<N> {
     fn home_place(&self, home: usize) -> Result<u8, Fault>
         ensures { HomePlace home (strap_meaning N.Netlist.meaning self.now) result }
     {
-        match self.place(home) {
-            Some(p) => Ok(p),
-            None => Err(Fault::NoSuchHomeModule),
-        }
-    }
-}
-
-/// The row in which each module is a group of its own.
-fn each_alone() -> [u8; 64]
-    ensures long { length result ≡ 64 }
-    ensures alone { (k : ℕ) → k < 64 → place_of result k ≡ k }
-{
-    let mut row = [0; 64];
-    for i in 0..64 {
-        row[i] = i as u8;
-    }
-    row
-}
-
-/// The row with groups `v` and `w` made one.
-fn united(mut row: [u8; 64], v: u8, w: u8) -> [u8; 64]
-    ensures { result ≡ united_row v w row }
-{
-    for i in 0..64 {
-        row[i] = united_place(v, w, row[i]);
-    }
-    row
-}
-
-/// The new number of a group: the two have the lower number of theirs, and the numbers above the higher close up.
-fn united_place(v: u8, w: u8, group: u8) -> u8
-    ensures { result ≡ place_united v w group }
-{
-    if group < v.max(w) {
-        group
-    } else if group == v.max(w) {
-        v.min(w)
-    } else {
-        group - 1
+        self.place(home).ok_or(Fault::NoSuchHomeModule)
     }
 }

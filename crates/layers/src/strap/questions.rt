@@ -1,5 +1,5 @@
 //! The questions, asked of a strap layer.
-ghost use Rattle.std.specs.Prelude.{◌≡◌, ◌≤◌, length, take};
+ghost use Rattle.std.specs.Prelude.{◌≡◌};
 ghost use Rattle.netlist.specs.Places.{groups};
 ghost use Rattle.layers.specs.Layered.{strap_meaning, strap_sound};
 
@@ -18,7 +18,7 @@ impl<N: Netlist> Netlist for StrapLayer<N> {
     }
 
     fn module_count(&self) -> usize {
-        group_count(&self.row, self.below.module_count())
+        group_count(&self.row[..self.below.module_count()])
     }
 
     fn net_count(&self) -> usize {
@@ -26,10 +26,8 @@ impl<N: Netlist> Netlist for StrapLayer<N> {
     }
 
     fn place(&self, home: usize) -> Option<u8> {
-        match self.below.place(home) {
-            Some(module) => Some(self.row[module as usize]),
-            None => None,
-        }
+        let module = self.below.place(home)?;
+        Some(self.row[usize::from(module)])
     }
 
     fn pin_count(&self, net: usize) -> Option<usize> {
@@ -37,10 +35,8 @@ impl<N: Netlist> Netlist for StrapLayer<N> {
     }
 
     fn pin(&self, net: usize, k: usize) -> Option<u8> {
-        match self.below.pin(net, k) {
-            Some(pin) => Some(self.row[pin as usize]),
-            None => None,
-        }
+        let pin = self.below.pin(net, k)?;
+        Some(self.row[usize::from(pin)])
     }
 
     fn price(&self, net: usize) -> Option<N::Price> {
@@ -52,14 +48,12 @@ impl<N: Netlist> Netlist for StrapLayer<N> {
     }
 }
 
-/// How many groups the first modules of a row are in.
-fn group_count(row: &[u8], modules: usize) -> usize
-    requires { modules ≤ length row.now }
-    ensures { result ≡ groups (take modules row.now) }
+/// How many groups a row has: one more than the greatest, and none where it is empty.
+fn group_count(row: &[u8]) -> usize
+    ensures { result ≡ groups row.now }
 {
-    let mut count: usize = 0;
-    for i in 0..modules {
-        count = count.max(row[i] as usize + 1);
-    }
-    count
+    row.iter()
+        .map(|group| usize::from(*group) + 1)
+        .max()
+        .unwrap_or(0)
 }

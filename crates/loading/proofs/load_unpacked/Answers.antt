@@ -1,15 +1,61 @@
-use Rattle.std.proofs.Common.{◌∙◌}
+use Rattle.std.proofs.Common.{◌≡◌, Err, refl, ◌∙◌}
+use Rattle.std.proofs.lemmas.Slice.{between_from_start}
+use Rattle.std.proofs.lemmas.Result.{err_from_is_err_and}
+use Rattle.refusal.specs.declared.Fault.TheVariants.{TooShort}
+use Rattle.bottom.specs.LoadFaults.{Loads}
 use Rattle.pin_tables.specs.Means.{means}
 use Rattle.loading.specs.Loading.{counted_fault, counted_meaning}
-use Rattle.loading.proofs.PageLoads.{filled_fault, filled_meaning, loads_filled}
+use Rattle.loading.proofs.PageLoads.{pages_load, starts_short, pins_short, prices_short, counted_loads, past_end}
 use Rattle.loading.proofs.load_unpacked.Goals as goal
 
+pub returns-in_err-starts : goal.returns-in_err-starts
+returns-in_err-starts g c =
+    let n = c.args.counts in
+    let starts = c.args.starts.now in
+    let pins = c.args.pins.now in
+    let prices = c.args.prices.now in
+    let p = err_from_is_err_and c.from_residual.result c.from_residual.ensures.1 in
+    let told : c.from_residual.result ≡ Err (TooShort 1) = cc (p.1, p.2, rw c.in_err-starts.ensures.ok_part at c.in_err-starts.ensures.value) in
+    let loads : Loads means (counted_fault n starts pins prices) (counted_meaning n starts pins prices) c.args.tables.now c.args.tables.now c.from_residual.result =
+    rw told (starts_short n starts pins prices (past_end (rw c.in_err-starts.ensures.ok_part at c.get.ensures.lookup.0)), refl) in
+    record { loads = loads; pages = pages_load g.P.Price.kind means n starts pins prices c.args.tables.now c.args.tables.now c.from_residual.result loads }
+
+pub returns-in_err-pins : goal.returns-in_err-pins
+returns-in_err-pins g c =
+    let n = c.args.counts in
+    let starts = c.args.starts.now in
+    let pins = c.args.pins.now in
+    let prices = c.args.prices.now in
+    let found_starts = rw c.in_ok-starts.ensures.ok_part at c.get.ensures.lookup.0 in
+    let p = err_from_is_err_and c.from_residual-in_err-pins.result c.from_residual-in_err-pins.ensures.1 in
+    let told : c.from_residual-in_err-pins.result ≡ Err (TooShort 2) = cc (p.1, p.2, rw c.in_err-pins.ensures.ok_part at c.in_err-pins.ensures.value) in
+    let loads : Loads means (counted_fault n starts pins prices) (counted_meaning n starts pins prices) c.args.tables.now c.args.tables.now c.from_residual-in_err-pins.result =
+    rw told (pins_short n starts pins prices found_starts.1 (past_end (rw c.in_err-pins.ensures.ok_part at c.get-2.ensures.lookup.0)), refl) in
+    record { loads = loads; pages = pages_load g.P.Price.kind means n starts pins prices c.args.tables.now c.args.tables.now c.from_residual-in_err-pins.result loads }
+
+pub returns-in_err-prices : goal.returns-in_err-prices
+returns-in_err-prices g c =
+    let n = c.args.counts in
+    let starts = c.args.starts.now in
+    let pins = c.args.pins.now in
+    let prices = c.args.prices.now in
+    let found_starts = rw c.in_ok-starts.ensures.ok_part at c.get.ensures.lookup.0 in
+    let found_pins = rw c.in_ok-pins.ensures.ok_part at c.get-2.ensures.lookup.0 in
+    let p = err_from_is_err_and c.from_residual-in_err-prices.result c.from_residual-in_err-prices.ensures.1 in
+    let told : c.from_residual-in_err-prices.result ≡ Err (TooShort 3) = cc (p.1, p.2, rw c.in_err-prices.ensures.ok_part at c.in_err-prices.ensures.value) in
+    let loads : Loads means (counted_fault n starts pins prices) (counted_meaning n starts pins prices) c.args.tables.now c.args.tables.now c.from_residual-in_err-prices.result =
+    rw told (prices_short n starts pins prices found_starts.1 found_pins.1 (past_end (rw c.in_err-prices.ensures.ok_part at c.get-3.ensures.lookup.0)), refl) in
+    record { loads = loads; pages = pages_load g.P.Price.kind means n starts pins prices c.args.tables.now c.args.tables.now c.from_residual-in_err-prices.result loads }
+
 pub returns : goal.returns
-returns g c = record {
-  loads = c.load_counted.ensures;
-  pages = λ bytes s p cs filled.
-      let kind = g.P.Price.kind in
-      let r = loads_filled means (counted_fault c.args.counts c.args.starts.now c.args.pins.now c.args.prices.now) (counted_meaning c.args.counts c.args.starts.now c.args.pins.now c.args.prices.now) c.args.tables.now c.load_counted.new.tables c.load_counted.result c.load_counted.ensures
-      (filled_fault kind bytes s c.args.starts.now p c.args.pins.now cs c.args.prices.now c.args.counts filled) in
-      (r.0, r.1 ∙ filled_meaning kind bytes s c.args.starts.now p c.args.pins.now cs c.args.prices.now c.args.counts filled);
-}
+returns g c =
+    let n = c.args.counts in
+    let starts = c.args.starts.now in
+    let pins = c.args.pins.now in
+    let prices = c.args.prices.now in
+    let a = rw c.in_ok-starts.ensures.ok_part at c.get.ensures.lookup.0 in
+    let b = rw c.in_ok-pins.ensures.ok_part at c.get-2.ensures.lookup.0 in
+    let d = rw c.in_ok-prices.ensures.ok_part at c.get-3.ensures.lookup.0 in
+    let loads = counted_loads n starts pins prices means c.args.tables.now c.load.new.self c.load.result _ _ _ a.1 b.1 d.1
+    (a.2 ∙ between_from_start starts _) (b.2 ∙ between_from_start pins _) (d.2 ∙ between_from_start prices _) c.load.ensures in
+    record { loads = loads; pages = pages_load g.P.Price.kind means n starts pins prices c.args.tables.now c.load.new.self c.load.result loads }

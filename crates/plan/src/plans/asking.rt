@@ -11,31 +11,35 @@ use netlist::Netlist;
 use price::Price;
 use refusal::Fault;
 
-impl<P> Answer<P> {
-    /// The answer of a change or a take back.
-    fn to_change(res: Result<(), Fault>) -> Self
-        ensures { result ≡ of_change res }
-    {
-        match res {
+/// The answer of a change or a take back.
+impl<P> From<Result<(), Fault>> for Answer<P> {
+    ghost from_gives = { λ told answer. answer ≡ of_change told };
+
+    fn from(told: Result<(), Fault>) -> Answer<P> {
+        match told {
             Ok(()) => Answer::Done,
             Err(fault) => Answer::Refused(fault),
         }
     }
+}
 
-    /// The answer of a split.
-    fn to_split(res: Result<FoundSplit<P>, Fault>) -> Self
-        ensures { result ≡ of_split res }
-    {
-        match res {
+/// The answer of a split.
+impl<P> From<Result<FoundSplit<P>, Fault>> for Answer<P> {
+    ghost from_gives = { λ told answer. answer ≡ of_split told };
+
+    fn from(told: Result<FoundSplit<P>, Fault>) -> Answer<P> {
+        match told {
             Ok(found) => Answer::Found(found),
             Err(fault) => Answer::Refused(fault),
         }
     }
+}
 
-    /// The answer of a look.
-    fn to_look(shown: Option<FoundSplit<P>>) -> Self
-        ensures { result ≡ told_of shown }
-    {
+/// The answer of a look.
+impl<P> From<Option<FoundSplit<P>>> for Answer<P> {
+    ghost from_gives = { λ shown answer. answer ≡ told_of shown };
+
+    fn from(shown: Option<FoundSplit<P>>) -> Answer<P> {
         match shown {
             Some(found) => Answer::Found(found),
             None => Answer::Absent,
@@ -51,11 +55,11 @@ impl<N: Netlist> Plan<N> {
             (homes (N.Netlist.meaning self.old.below)) call.old call.new }
     {
         match call {
-            Asked::Strap(a, b) => Answer::to_change(self.strap(*a, *b)),
-            Asked::Mute(net) => Answer::to_change(self.mute(*net)),
-            Asked::TakeBack => Answer::to_change(self.take_back()),
-            Asked::Split(cells) => Answer::to_split(self.split(cells)),
-            Asked::Look => Answer::to_look(self.look()),
+            Asked::Strap(a, b) => Answer::from(self.strap(*a, *b)),
+            Asked::Mute(net) => Answer::from(self.mute(*net)),
+            Asked::TakeBack => Answer::from(self.take_back()),
+            Asked::Split(cells) => Answer::from(self.split(cells)),
+            Asked::Look => Answer::from(self.look()),
         }
     }
 }

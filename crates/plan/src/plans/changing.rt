@@ -1,10 +1,11 @@
 //! The calls that change a plan or what it shows.
 ghost use Rattle.std.specs.Prelude.{◌≡◌, [], length};
 ghost use Rattle.netlist.specs.Meaning.{homes};
-ghost use Rattle.plan.specs.Reckoning.{strap as strap_call, mute as mute_call, take_back, split as split_call};
+ghost use Rattle.plan.specs.Reckoning.{making, strap as strap_call, mute as mute_call, take_back, split as split_call};
 ghost use Rattle.plan.specs.PlanCalls.{of_change, of_split, LedTo, refusal_on, CallOn, cells_left};
 
 use crate::plans::Plan;
+use arrayvec::ArrayVec;
 use cut::found::FoundSplit;
 use netlist::Netlist;
 use price::Price;
@@ -19,8 +20,7 @@ impl<N: Netlist> Plan<N> {
     {
         Plan {
             below,
-            changes: [Change::Strapped(0, 0); 64],
-            count: 0,
+            changes: ArrayVec::new(),
             shown: None,
         }
     }
@@ -30,9 +30,7 @@ impl<N: Netlist> Plan<N> {
     pub fn strap(&mut self, a: usize, b: usize) -> Result<(), Fault>
         ensures { CallOn N.Price.Price.kind N.Netlist.meaning (strap_call a b) self.old self.new (of_change result) }
     {
-        self.check_strap(a, b)?;
-        self.add(Change::Strapped(a, b));
-        Ok(())
+        self.make_change(Change::Strapped(a, b))
     }
 
     /// Mutes a net too; then nothing is shown.
@@ -40,8 +38,15 @@ impl<N: Netlist> Plan<N> {
     pub fn mute(&mut self, net: usize) -> Result<(), Fault>
         ensures { CallOn N.Price.Price.kind N.Netlist.meaning (mute_call net) self.old self.new (of_change result) }
     {
-        self.check_mute(net)?;
-        self.add(Change::Muted(net));
+        self.make_change(Change::Muted(net))
+    }
+
+    /// Makes a change, where it is not refused; then nothing is shown.
+    fn make_change(&mut self, change: Change) -> Result<(), Fault>
+        ensures { CallOn N.Price.Price.kind N.Netlist.meaning (making change) self.old self.new (of_change result) }
+    {
+        self.check_change(change)?;
+        self.add(change);
         Ok(())
     }
 
@@ -49,10 +54,7 @@ impl<N: Netlist> Plan<N> {
     pub fn take_back(&mut self) -> Result<(), Fault>
         ensures { CallOn N.Price.Price.kind N.Netlist.meaning take_back self.old self.new (of_change result) }
     {
-        if self.count == 0 {
-            return Err(Fault::NothingToTakeBack);
-        }
-        self.count -= 1;
+        self.changes.pop().ok_or(Fault::NothingToTakeBack)?;
         self.shown = None;
         Ok(())
     }

@@ -25,7 +25,7 @@ impl<N: Netlist> Plan<N> {
     pub(crate) fn standing(&self) -> MuteLayer<StrapLayer<Lent<'_, N>>>
         ensures { standing_meaning N.Netlist.meaning result ≡ plan_meaning N.Netlist.meaning self.now }
     {
-        standing::standing(&self.below, &self.changes[..self.count])
+        standing::standing(&self.below, self.changes.as_slice())
     }
 }
 

@@ -4,9 +4,6 @@ use Rattle.grouping.proofs.OwnNets.{own_there, own_few_pins, modules_few}
 use Rattle.grouping.proofs.PinSets.{pin_below, pins_more, pins_ended, pins_full}
 use Rattle.grouping.proofs.masks.net_mask.Goals as goal
 
-pub loop-k-init : goal.loop-k-init
-loop-k-init g c = λ v h. c.empty-mask.ensures v
-
 pub bounds-row-pin : goal.bounds-row-pin
 bounds-row-pin g c =
     let k = g.N.Price.Price.kind in

@@ -4,15 +4,15 @@ use Rattle.moduleset.specs.Words.{members}
 use Rattle.moduleset.proofs.Members.{nth_past_drop, nth_drop, drop_tail, members_first, lowest_nth}
 use Rattle.moduleset.proofs.ModuleSet.kth.Goals as goal
 
-pub returns-in-None : goal.returns-in-None
-returns-in-None c =
-    sym (nth_past_drop (members c.args.self.word) c.loop-i._i c.args.k (sym (c.in-None.ensures ∙ ap (λ xs. slice_get xs 0) c.loop-i.invariant)) (omega arith))
+pub returns-in_err-lowest : goal.returns-in_err-lowest
+returns-in_err-lowest c =
+    c.from_residual.ensures ∙ sym (nth_past_drop (members c.args.self.word) c.loop-i._i c.args.k (sym (c.in_err-lowest.ensures ∙ ap (λ xs. slice_get xs 0) c.loop-i.invariant)) (omega arith))
 
 pub loop-i-preserved : goal.loop-i-preserved
 loop-i-preserved c =
-    let v = c.in-Some.lowest in
+    let v = c.in_ok-lowest.field-0 in
     drop_tail (members c.args.self.word) _ c.loop-i._i v
-    (sym c.loop-i.invariant ∙ members_first c.loop-i.rest.word c.without-rest.result.word v (lowest_nth c.loop-i.rest.word v c.in-Some.ensures) c.without-rest.ensures)
+    (sym c.loop-i.invariant ∙ members_first c.loop-i.rest.word c.without-rest.result.word v (lowest_nth c.loop-i.rest.word v c.in_ok-lowest.ensures) c.without-rest.ensures)
 
 pub returns : goal.returns
 returns c =

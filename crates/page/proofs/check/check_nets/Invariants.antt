@@ -4,10 +4,10 @@ use Rattle.page.specs.Faults.{nets_fault}
 use Rattle.page.proofs.check.check_nets.Given as goal
 
 -- no fault among the nets so far
-abbrev pub invariant-loop-i : goal.invariant-loop-i
-invariant-loop-i l =
-    (nets_fault l.bytes l.modules l.i ≡ None)
-    × (l.end ≡ net_bit l.bytes l.i)
-    × (l.end ≤ 22 + 801 * l.i)
+abbrev pub invariant-loop : goal.invariant-loop
+invariant-loop l =
+    (nets_fault l.bytes l.modules l.counter ≡ None)
+    × (l.end ≡ net_bit l.bytes l.counter)
+    × (l.end ≤ 22 + 801 * l.counter)
     × (l.end ≤ 8 * length l.bytes)
-    × (l.pins ≡ length (pins_table l.bytes l.i))
+    × (l.pins ≡ length (pins_table l.bytes l.counter))

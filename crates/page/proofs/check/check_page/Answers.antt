@@ -1,54 +1,34 @@
-use Rattle.std.proofs.Common.{ℕ, length, ap, ◌∙◌, arith}
+use Rattle.std.proofs.Common.{ℕ, None, length, ap, ◌∙◌, arith}
 use Rattle.std.proofs.lemmas.Result.{err_from_is_err_and}
 use Rattle.page.specs.Layout.{pins_table}
-use Rattle.page.proofs.PageLaws.{header_told, nets_told, pad_told, room_told}
+use Rattle.page.proofs.PageLaws.{header_told, nets_told, pad_told}
 use Rattle.page.proofs.check.check_page.Goals as goal
 
 pub returns-in_err-header : goal.returns-in_err-header
-returns-in_err-header c =
+returns-in_err-header g c =
     let p = err_from_is_err_and c.from_residual.result c.from_residual.ensures.1 in
-    rw (p.1, p.2) (record { cases = header_told c.args.bytes.now c.args.kind _ _ _ _ c.in_err-header.ensures.cases })
+    rw (p.1, p.2) (header_told c.args.bytes.now g.P.Price.kind.number _ c.in_err-header.ensures.cases)
 
 pub returns-in_err-extent : goal.returns-in_err-extent
-returns-in_err-extent c =
+returns-in_err-extent g c =
     let h = c.in_ok-header.ensures.cases in
     let p = err_from_is_err_and c.from_residual-in_err-extent.result c.from_residual-in_err-extent.ensures.1 in
-    rw (p.1, p.2) (record { cases = nets_told c.args.bytes.now c.args.kind _ _ _ _ _ h.0 h.1 h.2 _ c.in_err-extent.ensures.cases })
+    rw (p.1, p.2) (nets_told c.args.bytes.now g.P.Price.kind.number _ _ h.0 h.1 h.2 _ c.in_err-extent.ensures.cases)
 
 pub returns-in_err-check_pad : goal.returns-in_err-check_pad
-returns-in_err-check_pad c =
+returns-in_err-check_pad g c =
     let h = c.in_ok-header.ensures.cases in
     let n = c.in_ok-extent.ensures.cases in
     let p = err_from_is_err_and c.from_residual-in_err-check_pad.result c.from_residual-in_err-check_pad.ensures.1 in
-    rw (p.1, p.2) (record {
-      cases =
-          pad_told c.args.bytes.now c.args.kind _ _ _ _ _ h.0 h.1 h.2 _ n.0 n.1 _ c.in_err-check_pad.ensures.cases;
-    })
-
-pub returns-in_err-check_tables : goal.returns-in_err-check_tables
-returns-in_err-check_tables c =
-    let h = c.in_ok-header.ensures.cases in
-    let n = c.in_ok-extent.ensures.cases in
-    let p = err_from_is_err_and c.from_residual-in_err-check_tables.result c.from_residual-in_err-check_tables.ensures.1 in
-    rw (p.1, p.2) (record {
-      cases =
-          room_told c.args.bytes.now c.args.kind _ _ _ _ _ h.0 h.1 h.2 _ n.0 n.1 _ _
-          c.in_ok-check_pad.ensures.cases n.4 c.in_err-check_tables.ensures.cases;
-    })
+    rw (p.1, p.2) (pad_told c.args.bytes.now g.P.Price.kind.number _ _ h.0 h.1 h.2 _ n.0 n.1 _ c.in_err-check_pad.ensures.cases)
 
 pub returns : goal.returns
-returns c =
+returns g c =
     let b = c.args.bytes.now in
     let h = c.in_ok-header.ensures.cases in
-    let n = c.in_ok-extent.ensures.cases in
-    let t = c.in_ok-check_tables.ensures.cases in
-    record {
-      cases = (
-        room_told b c.args.kind _ _ _ _ _ h.0 h.1 h.2 _ n.0 n.1 _ _ c.in_ok-check_pad.ensures.cases n.4 t.0,
-        record { modules_are = h.1; nets_are = h.2; pins_are = n.4 ∙ ap (λ (x : ℕ). length (pins_table b x)) h.2 },
-        record { early = omega (arith, n); whole = omega (arith, n) },
-        t.1,
-        t.2,
-        t.3,
-      );
-    }
+    let n = c.in_ok-extent.ensures.cases in (
+      pad_told b g.P.Price.kind.number _ _ h.0 h.1 h.2 _ n.0 n.1 None c.in_ok-check_pad.ensures.cases,
+      record { modules_are = h.1; nets_are = h.2; pins_are = n.4 ∙ ap (λ (x : ℕ). length (pins_table b x)) h.2 },
+      record { early = omega (arith, n); whole = omega (arith, n) },
+      omega arith,
+    )

@@ -1,8 +1,7 @@
-use Rattle.std.proofs.Common.{◌≡◌, ◌+◌, ◌++◌, take, drop}
+use Rattle.std.proofs.Common.{◌≡◌, ◌++◌, drop}
 use Rattle.page.specs.Layout.{net_pins}
 use Rattle.page.proofs.fill.fill_pins.Given as goal
 
--- the pins so far stand in the table, and what is before and after them is as it was
+-- the pins so far stand in the table
 abbrev pub invariant-loop-k : goal.invariant-loop-k
-invariant-loop-k l =
-    l.pins ≡ (take l.from l.initial.pins ++ net_pins l.bytes l.at l.k) ++ drop (l.from + l.k) l.initial.pins
+invariant-loop-k l = l.pins ≡ net_pins l.whole.net.bytes.now l.whole.net.at l.k ++ drop l.k l.initial.pins

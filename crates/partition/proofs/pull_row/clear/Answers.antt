@@ -1,14 +1,8 @@
-use Rattle.std.proofs.Common.{◌≡◌, ℕ, set, ap, ◌∙◌, arith}
-use Rattle.partition.specs.Pulls.{cleared}
+use Rattle.std.proofs.Common.{set, ap, ◌∙◌, arith}
 use Rattle.partition.proofs.Cells.{cleared_more}
 use Rattle.partition.proofs.pull_row.clear.Goals as goal
 
-pub loop-i-preserved : goal.loop-i-preserved
-loop-i-preserved g c =
-    ap (set c.loop-i.cells c.loop-i.i) c.zero.ensures
-    ∙ cleared_more g.P.Price.kind c.loop-i.i c.args.cells.now c.loop-i.cells (omega arith) c.loop-i.invariant
-
-pub returns : goal.returns
-returns g c =
-    let e : c.loop-i.i ≡ c.args.count = omega arith in
-    c.loop-i.invariant ∙ ap (λ (n : ℕ). cleared g.P.Price.kind n c.args.cells.now) e
+pub loop-cell-preserved : goal.loop-cell-preserved
+loop-cell-preserved g c =
+    ap (set c.loop-cell.cells c.loop-cell.cell-index) c.zero.ensures
+    ∙ cleared_more g.P.Price.kind c.loop-cell.cell-index c.args.cells.now c.loop-cell.cells (omega arith) c.loop-cell.invariant

@@ -1,8 +1,6 @@
-use Rattle.std.proofs.Common.{◌≡◌, ℕ, ◌++◌, replicate, ap, ◌∙◌, arith}
-use Rattle.netlist.specs.Meaning.{homes}
-use Rattle.partition.specs.Pulls.{cleared}
+use Rattle.std.proofs.Common.{ℕ, replicate, ap, ◌∙◌, arith}
+use Rattle.std.proofs.lemmas.List.{length-take-le}
 use Rattle.grouping.proofs.OwnNets.{modules_few, modules_homes}
-use Rattle.partition.proofs.Cells.{drop_further}
 use Rattle.partition.proofs.HomeSides.{few_groups, splitted}
 use Rattle.partition.proofs.splitting.split.Goals as goal
 
@@ -14,26 +12,14 @@ returns-then-count-lt2 g c =
 pub overflow_cast-count : goal.overflow_cast-count
 overflow_cast-count g c = omega (arith, modules_few (g.N.Netlist.meaning c.args.netlist.now) (g.N.Netlist.sound c.args.netlist.now))
 
-pub split_modules-found-requires : goal.split_modules-found-requires
-split_modules-found-requires g c =
-    let m = g.N.Netlist.meaning c.args.netlist.now in
-    record {
-      all = c.module_count-count.ensures;
-      two = omega arith;
-      room = omega (arith, modules_homes m (g.N.Netlist.sound c.args.netlist.now));
-    }
+pub split_modules-found-requires-clause-room : goal.split_modules-found-requires-clause-room
+split_modules-found-requires-clause-room g c = omega (arith, modules_homes (g.N.Netlist.meaning c.args.netlist.now) (g.N.Netlist.sound c.args.netlist.now))
 
 pub returns : goal.returns
 returns g c =
     let k = g.N.Price.Price.kind in
-    let m = g.N.Netlist.meaning c.args.netlist.now in
-    let s = g.N.Netlist.sound c.args.netlist.now in
-    let count : ℕ = c.module_count-count.result in
-    let same_homes : c.home_count-homes.result ≡ homes m = c.home_count-homes.ensures in
-    splitted k g.met.N.Price.Price.lawful m s c.args.cells.now count c.split_modules-found.result.sides.word c.home_set.result.word c.split_modules-found.result.price
-    c.clear.new.cells c.module_count-count.ensures (omega (arith, c.module_count-count.ensures)) (omega (arith, same_homes)) c.split_modules-found.ensures.found
-    (omega arith) c.home_set.ensures
-    (c.clear.ensures
-    ∙ ap (λ xs. replicate c.home_count-homes.result k.zero ++ xs)
-    (drop_further count c.home_count-homes.result c.split_modules-found.new.cells c.args.cells.now (omega (arith, modules_homes m s, c.module_count-count.ensures, same_homes)) c.split_modules-found.ensures.later)
-    ∙ ap (λ (n : ℕ). cleared k n c.args.cells.now) same_homes)
+    let found = c.split_modules-found in
+    splitted k g.met.N.Price.Price.lawful (g.N.Netlist.meaning c.args.netlist.now) (g.N.Netlist.sound c.args.netlist.now) c.args.cells.now c.module_count-count.result
+    c.home_count-homes.result found.result.sides.word c.home_set.result.word found.result.price c.clear.new.cells found.new.cells c.module_count-count.ensures
+    c.home_count-homes.ensures (omega arith) (omega arith) found.ensures.found (omega arith) c.home_set.ensures
+    (c.clear.ensures ∙ ap (λ (n : ℕ). replicate n k.zero) (length-take-le c.home_count-homes.result found.new.cells (omega (arith, found.auto.cells)))) found.ensures.later

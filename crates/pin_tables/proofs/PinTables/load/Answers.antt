@@ -1,4 +1,4 @@
-use Rattle.std.proofs.Common.{length}
+use Rattle.std.proofs.Common.{◌≡◌, ◌-◌, length, arith}
 use Rattle.bottom.specs.LoadFaults.{pins_fault}
 use Rattle.bottom.proofs.FirstFaults.{accepted, counts_accepted, pins_there, few_pins}
 use Rattle.pin_tables.specs.Tables.{net_pins}
@@ -11,7 +11,8 @@ check_pins-requires g c =
     let pins = c.args.pins.now in
     let nets = length c.args.prices.now in
     let agree = tables_agree tt starts (length pins) nets c.in_ok-check_tables.ensures in
-    record { level = agree.0; rising = tables_rise tt starts pins nets c.in_ok-check_pin_counts.ensures agree.1 }
+    let level : length starts - 1 ≡ nets = omega (arith, agree.0) in
+    record { some = omega (arith, agree.0); rising = rw level (tables_rise tt starts pins nets (rw level at c.in_ok-check_pin_counts.ensures) agree.1) }
 
 pub invariant_of-self : goal.invariant_of-self
 invariant_of-self g c =
@@ -21,10 +22,11 @@ invariant_of-self g c =
     let modules = c.args.modules in
     let counts = counts_accepted tt modules nets c.in_ok-check_counts.ensures in
     let agree = tables_agree tt starts (length pins) nets c.in_ok-check_tables.ensures in
-    let passed = accepted tt (pins_fault modules (net_pins starts pins) nets) c.in_ok-check_pins.ensures in
+    let level : length starts - 1 ≡ nets = omega (arith, agree.0) in
+    let passed = accepted tt (pins_fault modules (net_pins starts pins) nets) (rw level at c.in_ok-check_pins.ensures) in
     record {
       counted = (counts.0, counts.1, agree.0);
-      rising = tables_rise tt starts pins nets c.in_ok-check_pin_counts.ensures agree.1;
+      rising = tables_rise tt starts pins nets (rw level at c.in_ok-check_pin_counts.ensures) agree.1;
       short = few_pins modules (net_pins starts pins) nets passed counts.0;
       there = pins_there modules (net_pins starts pins) nets passed;
     }

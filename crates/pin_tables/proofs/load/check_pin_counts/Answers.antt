@@ -1,14 +1,14 @@
-use Rattle.std.proofs.Common.{sym, ap}
-use Rattle.std.proofs.lemmas.Bool.{lt-ltb, le-ltb}
+use Rattle.std.proofs.Common.{◌+◌, ◌<◌, ◌≤◌, drop, ap, ◌∙◌, rules, tests}
+use Rattle.std.proofs.lemmas.Iterator.{IsFirst-from_position, YieldsList-from_zip, YieldsList-from_slice}
 use Rattle.bottom.specs.LoadFaults.{checked}
-use Rattle.refusal.proofs.CheckLaws.{first_none, first_more, first_at, fault_if_true, fault_if_false}
+use Rattle.pin_tables.proofs.StartPairs.{tail, few_found}
 use Rattle.pin_tables.proofs.load.check_pin_counts.Goals as goal
 
-pub loop-net-init : goal.loop-net-init
-loop-net-init c = first_none _
-
-pub returns-then-starts-net : goal.returns-then-starts-net
-returns-then-starts-net c = sym (ap checked (first_at _ _ c.loop-net.net c.args.nets c.loop-net.invariant (fault_if_true _ _ (lt-ltb _ _ c.if-starts-net.true)) c.loop-net-test.true))
-
-pub loop-net-preserved : goal.loop-net-preserved
-loop-net-preserved c = first_more _ c.loop-net.net c.loop-net.invariant (fault_if_false _ _ (le-ltb _ _ c.if-starts-net.false))
+pub returns : goal.returns
+returns c =
+    let starts = c.args.starts.now in
+    c.check_few_pins.ensures
+    ∙ ap checked (few_found starts c.position.result
+    (IsFirst-from_position c.position.new.self _ c.position.result (λ p. p.1 < p.0 + 2) (λ p. p.0 + 2 ≤ p.1) c.position.ensures.ran
+    (YieldsList-from_zip {s = c.zip-nets.result} (YieldsList-from_slice starts (cc)) (YieldsList-from_slice (drop 1 starts) (c.zip-nets.ensures.second.0 ∙ tail starts)))
+    (λ x q k. search (rules, tests)) (λ x q k. search (rules, tests))))

@@ -1,6 +1,5 @@
-use Rattle.std.proofs.Common.{◌≡◌, ℕ, ◌-◌, ◌<◌, false, eqb, List, [], ◌∷◌, length, take, drop, sym, refl, ◌∙◌, arith, eqb-true}
+use Rattle.std.proofs.Common.{◌≡◌, ℕ, ◌<◌, false, eqb, List, [], ◌∷◌, length, sym, refl, arith, eqb-true}
 use borrow.Author.Tests.{eqb-false}
-use Rattle.std.proofs.lemmas.List.{take_rest, drop_all}
 use Rattle.script.proofs.Lines.{first_parted, first_alone}
 use Rattle.script.proofs.scripts.next_line.Goals as goal
 
@@ -11,9 +10,6 @@ no_bytes : (xs : List ℕ) → length xs ≡ 0 → xs ≡ []
 no_bytes [] e = refl
 no_bytes (x ∷ xs) e = absurd (omega arith)
 
-none_after : (xs : List ℕ) → take (length xs - length xs) (drop (length xs) xs) ≡ []
-none_after xs = take_rest xs (length xs) ∙ drop_all (length xs) xs (omega arith)
-
 pub returns-then-is_empty : goal.returns-then-is_empty
 returns-then-is_empty c = no_bytes c.args.script.now (eqb-true (length c.args.script.now) 0 (sym c.if-is_empty.ensures))
 
@@ -21,4 +17,4 @@ pub returns-in-Some : goal.returns-in-Some
 returns-in-Some c = first_parted _ _ _ (some_bytes c.args.script.now c.if-is_empty.ensures) c.in-Some.ensures
 
 pub returns-in-None : goal.returns-in-None
-returns-in-None c = first_alone _ _ (some_bytes c.args.script.now c.if-is_empty.ensures) c.in-None.ensures (none_after c.args.script.now)
+returns-in-None c = first_alone _ _ (some_bytes c.args.script.now c.if-is_empty.ensures) c.in-None.ensures refl

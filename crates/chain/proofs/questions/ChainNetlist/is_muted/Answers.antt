@@ -1,12 +1,9 @@
-use Rattle.std.proofs.Common.{◌-◌, false, length, sym, arith}
-use lib.ListN.{length-replicate}
-use Rattle.price.specs.Wires.{wires_of}
-use Rattle.bottom.proofs.Asked.{unmuted, unmuted_absent}
+use Rattle.std.proofs.Common.{length, false, ◌∙◌, sym}
 use Rattle.chain.specs.Chains.{chain_prices}
+use Rattle.chain.proofs.ChainAsked.{nets_are, net_count, same_for_each}
 use Rattle.chain.proofs.questions.ChainNetlist.is_muted.Goals as goal
 
-pub returns-then-net-saturating_sub : goal.returns-then-net-saturating_sub
-returns-then-net-saturating_sub c = let n = c.args.self.now.modules in sym (unmuted (length (chain_prices n)) false c.args.net (omega (arith, c.saturating_sub.ensures, length-replicate (n - 1) (wires_of 1))))
-
-pub returns-else-net-saturating_sub : goal.returns-else-net-saturating_sub
-returns-else-net-saturating_sub c = let n = c.args.self.now.modules in sym (unmuted_absent (length (chain_prices n)) false c.args.net (omega (arith, c.saturating_sub.ensures, length-replicate (n - 1) (wires_of 1))))
+pub returns : goal.returns
+returns c =
+    let n = c.args.self.now.modules in
+    c.then_some.ensures ∙ same_for_each (length (chain_prices n)) false c.args.net c.net_count.result (c.net_count.ensures ∙ net_count n ∙ sym (nets_are n))

@@ -1,10 +1,16 @@
-use Rattle.std.proofs.Common.{Some, refl, ap, ◌∙◌, arith}
+use Rattle.std.proofs.Common.{ltb, sym, refl, ap, ◌∙◌, ◌-◌}
+use Rattle.std.specs.Bool.{then_some}
+use Rattle.price.specs.Wires.{wires, wires_of}
 use Rattle.price.specs.KindLaws.{same_wires}
-use Rattle.chain.proofs.ChainAsked.{price_there, price_past}
+use Rattle.bottom.proofs.Asked.{price_asked}
+use Rattle.chain.specs.Chains.{chain_pins, chain_prices, pins_there}
+use Rattle.chain.proofs.ChainAsked.{net_count, same_for_each}
 use Rattle.chain.proofs.questions.ChainNetlist.price.Goals as goal
 
-pub returns-then-net-saturating_sub : goal.returns-then-net-saturating_sub
-returns-then-net-saturating_sub c = ap Some (same_wires _ _ refl) ∙ price_there c.args.self.now.modules c.args.net (omega (arith, c.saturating_sub.ensures))
-
-pub returns-else-net-saturating_sub : goal.returns-else-net-saturating_sub
-returns-else-net-saturating_sub c = price_past c.args.self.now.modules c.args.net (omega (arith, c.saturating_sub.ensures))
+pub returns : goal.returns
+returns c =
+    let n = c.args.self.now.modules in
+    c.then_some.ensures
+    ∙ ap (λ w. then_some (ltb c.args.net c.net_count.result) w) (same_wires _ (wires_of 1) refl)
+    ∙ same_for_each (n - 1) (wires_of 1) c.args.net c.net_count.result (c.net_count.ensures ∙ net_count n)
+    ∙ sym (price_asked wires n chain_pins (chain_prices n) (pins_there n) c.args.net)

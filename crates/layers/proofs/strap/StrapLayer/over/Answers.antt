@@ -5,14 +5,14 @@ use Rattle.layers.proofs.strap.StrapLayer.over.Goals as goal
 
 pub invariant_of-result : goal.invariant_of-result
 invariant_of-result g c = record {
-  long = c.each_alone.ensures.long;
-  numbered = alone_in_turn c.each_alone.result 64 c.each_alone.ensures.long c.each_alone.ensures.alone;
+  long = c.singles.ensures.long;
+  numbered = alone_in_turn c.singles.result 64 c.singles.ensures.long c.singles.ensures.own;
 }
 
 pub returns : goal.returns
 returns g c =
     let m = g.N.Netlist.meaning c.args.below in
     let s = g.N.Netlist.sound c.args.below in
-    let same = alone_regrouped c.each_alone.result 64 c.each_alone.ensures.long c.each_alone.ensures.alone m.places
+    let same = alone_regrouped c.singles.result 64 c.singles.ensures.long c.singles.ensures.own m.places
     (places_few m.places 0 64 (omega (arith, s.few_homes)) s.numbered) in
     (ap (λ places. record { places = places; nets = m.nets; muted = m.muted }) same, refl)

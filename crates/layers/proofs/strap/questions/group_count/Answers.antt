@@ -1,14 +1,16 @@
-use Rattle.std.proofs.Common.{◌≡◌, suc, ◌+◌, max, take, ap, ◌∙◌, add-one, arith}
-use Rattle.netlist.specs.Places.{place, groups}
-use Rattle.layers.specs.Rows.{groups_more}
+use Rattle.std.proofs.Common.{◌≡◌, ◌+◌, max, map, sym, ap, ◌∙◌, rules}
+use Rattle.std.specs.List.{reduce}
+use Rattle.std.specs.Option.{unwrap_or}
+use Rattle.std.proofs.lemmas.Iterator.{YieldsList-from_slice, YieldsList-from_map}
+use Rattle.std.proofs.lemmas.Iterator.Adapters.{option_map_id}
+use Rattle.std.proofs.lemmas.Iterator.Consumers.{max_from_yields_List}
+use Rattle.layers.proofs.Regrouping.{greatest_counted}
 use Rattle.layers.proofs.strap.questions.group_count.Goals as goal
 
-pub loop-i-preserved : goal.loop-i-preserved
-loop-i-preserved c =
-    let row = c.args.row.now in
-    let i = c.loop-i.i in
-    let more : groups (take (i + 1) row) ≡ max (suc (place row i)) (groups (take i row)) =
-    ap (λ n. groups (take n row)) (add-one i) ∙ groups_more row i (omega arith) in
-    let greater = c.max-count.ensures in
-    let byte = c.type_inv.row i in
-    (omega arith, omega arith)
+pub returns : goal.returns
+returns c =
+    let most : c.max.result ≡ reduce max (map (λ group. group + 1) c.args.row.now) =
+    sym (option_map_id _)
+    ∙ max_from_yields_List _ _ c.max.ensures.ran
+    (YieldsList-from_map _ (λ group. group + 1) (YieldsList-from_slice c.args.row.now cc) c.map.ensures.closure (λ x r q k. search rules)) in
+    c.unwrap_or.ensures ∙ ap (λ count. unwrap_or count 0) most ∙ greatest_counted c.args.row.now

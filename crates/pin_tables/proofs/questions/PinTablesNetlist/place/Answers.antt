@@ -1,9 +1,9 @@
-use Rattle.std.proofs.Common.{sym, arith}
-use Rattle.bottom.proofs.Asked.{place_there, place_absent}
+use Rattle.std.proofs.Common.{rules}
+use Rattle.std.proofs.lemmas.Option.{IfSome_then}
+use Rattle.bottom.proofs.Asked.{place_asked}
 use Rattle.pin_tables.proofs.questions.PinTablesNetlist.place.Goals as goal
 
-pub returns-then-home-self : goal.returns-then-home-self
-returns-then-home-self g c = sym (place_there c.args.self.now.modules c.args.home (omega arith))
-
-pub returns-else-home-self : goal.returns-else-home-self
-returns-else-home-self g c = sym (place_absent c.args.self.now.modules c.args.home (omega arith))
+pub returns : goal.returns
+returns g c =
+    place_asked c.args.self.now.modules c.args.home c.then.result c.then.ensures.variant
+    (IfSome_then c.then.result c.then.ensures.some (λ x p. search rules))

@@ -1,10 +1,11 @@
-use Rattle.std.proofs.Common.{refl, rules}
+use Rattle.std.proofs.Common.{refl, ap, ◌∙◌, length, rules}
+use Rattle.standing.specs.Standing.{latest_first}
 use Rattle.plan.proofs.PlanSteps.{latest_more}
 use Rattle.plan.proofs.plans.Plan.add.Goals as goal
 
 pub returns : goal.returns
 returns g c = record {
-  stands = latest_more c.args.self.now.count c.args.self.now.changes c.args.change (search rules);
+  stands = ap (λ xs. latest_first (length xs) xs) c.push.ensures.items ∙ latest_more c.args.self.now.changes.items c.args.change;
   shows = refl;
   below = search rules;
 }

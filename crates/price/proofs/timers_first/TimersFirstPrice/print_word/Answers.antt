@@ -9,4 +9,8 @@ above t w h k =
     ap (λ x. bit_or x w) e ∙ or_shifted t 32 w k
 
 pub returns : goal.returns
-returns c = let s = c.args.self in above s.timers s.wires s.bounded.0 s.bounded.1
+returns c =
+    let s = c.args.self in
+    ap (λ t. bit_or ((t * 2 ^ 32) % 2 ^ 64) c.from-2.result) c.from.ensures
+    ∙ ap (bit_or ((s.timers * 2 ^ 32) % 2 ^ 64)) c.from-2.ensures
+    ∙ above s.timers s.wires s.bounded.0 s.bounded.1

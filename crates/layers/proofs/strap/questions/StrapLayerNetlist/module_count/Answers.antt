@@ -2,8 +2,8 @@ use Rattle.std.proofs.Common.{arith}
 use Rattle.layers.proofs.Regrouping.{strap_modules, modules_few}
 use Rattle.layers.proofs.strap.questions.StrapLayerNetlist.module_count.Goals as goal
 
-pub group_count-requires : goal.group_count-requires
-group_count-requires g c =
+pub shared_ref_as_front-group_count : goal.shared_ref_as_front-group_count
+shared_ref_as_front-group_count g c =
     let layer = c.args.self.now in
     omega (arith, layer.long, c.module_count.ensures, modules_few (g.N.Netlist.meaning layer.below) (g.N.Netlist.sound layer.below))
 

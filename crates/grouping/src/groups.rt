@@ -1,0 +1,20 @@
+//! The modules of a group, by a row of 64 bytes that is passed on by value.
+ghost use Rattle.std.specs.Prelude.{◌≡◌, ℕ, ◌<◌};
+ghost use Rattle.moduleset.specs.Words.{has as is_in};
+ghost use Rattle.netlist.specs.Places.{place as place_in};
+ghost use Rattle.cut.specs.Cuts.{alone};
+
+use moduleset::ModuleSet;
+
+/// The modules of a group.
+pub fn group_set(row: [u8; 64], group: u8) -> ModuleSet
+    ensures { (v : ℕ) → v < 64 → is_in result.word v ≡ alone group (place_in row v) }
+{
+    let mut set = ModuleSet::empty();
+    for (v, place) in row.iter().enumerate() {
+        if *place == group {
+            set = set.with(v as u8);
+        }
+    }
+    set
+}

@@ -1,8 +1,0 @@
-use Rattle.std.proofs.Common.{◌≡◌, None}
-use Rattle.refusal.specs.Checks.{first_fault}
-use Rattle.page.specs.Faults.{pin_fault}
-use Rattle.page.proofs.check.check_pins.Given as goal
-
--- no fault among the pins so far
-abbrev pub invariant-loop-k : goal.invariant-loop-k
-invariant-loop-k l = first_fault (pin_fault l.bytes l.modules l.at) l.k ≡ None

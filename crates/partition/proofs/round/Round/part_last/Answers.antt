@@ -1,0 +1,16 @@
+use Rattle.std.proofs.Common.{◌++◌, drop, ap}
+use Rattle.partition.proofs.RoundSteps.{noted_is, next_is}
+use Rattle.partition.proofs.round.Round.part_last.Goals as goal
+
+pub returns : goal.returns
+returns g c =
+    let k = g.N.Price.Price.kind in
+    let l = g.met.N.Price.Price.lawful in
+    let round = c.args.self.now in
+    let m = g.N.Netlist.meaning round.netlist.now in
+    let ordered = c.order-price.ensures in
+    record {
+      noted = noted_is k l m round.row c.order-price.new.bytes round.count round.several ordered.order c.group_set.result.word c.order-price.result ordered.price c.group_set.ensures;
+      next = next_is k l m round.row c.order-price.new.bytes round.count round.several ordered.order c.united_row.result c.united_row.ensures;
+      cells = ap (λ xs. xs ++ drop round.count c.args.cells.now) ordered.cells;
+    }

@@ -1,0 +1,34 @@
+//! The tables that a page is unpacked into.
+ghost use Rattle.std.specs.Prelude.{◌≡◌, replicate, IfOk, vec_items, vec_len};
+
+use crate::limits::{HOMES_MOST, NETS_MOST, PINS_MOST};
+use price::Price;
+use std::alloc::{AllocError, Global};
+
+/// Tables with room for every page of a price kind, and a row of cells with one for each home module.
+#[derive(Drop)]
+pub struct Tables<P> {
+    pub starts: Vec<u32>,
+    pub pins: Vec<u8>,
+    pub prices: Vec<P>,
+    pub cells: Vec<P>,
+    pub ghost starts_room: { vec_len starts ≡ 1025 },
+    pub ghost pins_room: { vec_len pins ≡ 65536 },
+    pub ghost prices_room: { vec_len prices ≡ 1024 },
+    pub ghost cells_room: { vec_len cells ≡ 64 },
+}
+
+impl<P: Price> Tables<P> {
+    /// Tables with zero in each place; of prices, whose clones a kind does not promise equal, only how many is told.
+    pub fn new(heap: Global) -> Result<Tables<P>, AllocError>
+        ensures starts { IfOk result (λ tables. vec_items tables.starts ≡ replicate 1025 0) }
+        ensures pins { IfOk result (λ tables. vec_items tables.pins ≡ replicate 65536 0) }
+    {
+        Ok(Tables {
+            starts: vec![in heap; 0u32; NETS_MOST + 1]?,
+            pins: vec![in heap; 0u8; PINS_MOST]?,
+            prices: vec![in heap; P::zero(); NETS_MOST]?,
+            cells: vec![in heap; P::zero(); HOMES_MOST]?,
+        })
+    }
+}

@@ -1,0 +1,5 @@
+//! The tests of what the program prints.
+#![tactic(auto)]
+
+#[cfg(test)]
+mod printed_tests;
