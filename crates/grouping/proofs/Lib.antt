@@ -2,3 +2,4 @@ pub mod Nth
 pub mod OwnNets
 pub mod PinSets
 pub mod SetLoops
+mod UnitedSets

@@ -13,7 +13,7 @@ use Rattle.netlist.specs.Places.{place, placed}
 use Rattle.netlist.specs.Meaning.{Meaning, own_nets}
 use Rattle.cut.specs.Cuts.{has, pulls}
 use Rattle.cut.proofs.Members.{Member, has_head, has_tail, any_member, member_any, every_member, members_every, all_member, member_of_map, same_tests, pulls_parts, pulls_from}
-use Rattle.grouping.specs.Masks.{grouped, pins_of, SetOf, MasksOf, PinGroups, names}
+use Rattle.grouping.specs.Masks.{pins_of, SetOf, MasksOf, AlsoHas, names}
 use Rattle.grouping.proofs.Nth.{nth_past, nth_next}
 use Rattle.grouping.proofs.OwnNets.{own_length}
 
@@ -111,66 +111,54 @@ module _ {P : Type 0} (nets : List (Net P)) where
   pin_below m i k p o e =
       all_member (λ pin. pin < m) (pins_of nets i) p (pins_on (AllByRecursion (λ pin. pin < m)) nets i tt o) (nth_member (pins_of nets i) k p (e ∙ pin_nth nets i k))
 
-  -- the set of the first k pins of net i, by a row of groups
-  abbrev pub FirstPins : List ℕ → ℕ → ℕ → ℕ → Type 0
-  FirstPins row i k mask = (v : ℕ) → v < 64 → is_in mask v ≡ has (map (place row) (take k (pins_of nets i))) v
+  -- the set of the first k pins of net i
+  abbrev pub FirstPins : ℕ → ℕ → ℕ → Type 0
+  FirstPins i k mask = (v : ℕ) → v < 64 → is_in mask v ≡ has (take k (pins_of nets i)) v
 
-  pub pins_more : (row : List ℕ) (i k p mask mask' : ℕ) → Some p ≡ pin_at nets i k → ((v : ℕ) → v < 64 → is_in mask' v ≡ (is_in mask v || eqb v (place row p)))
-      → FirstPins row i k mask → FirstPins row i (k + 1) mask'
-  pins_more row i k p mask mask' e f g v h =
-      f v h ∙ ap (λ b. b || eqb v (place row p)) (g v h)
-      ∙ sym (has_next (map (place row) (take k (pins_of nets i))) (place row p) v)
-      ∙ ap (λ xs. has xs v) (sym (map-append (place row) (take k (pins_of nets i)) (p ∷ [])) ∙ ap (map (place row)) (sym (nth_next (pins_of nets i) k p (e ∙ pin_nth nets i k))))
+  pub pins_more : (i k p mask mask' : ℕ) → Some p ≡ pin_at nets i k → AlsoHas mask mask' p → FirstPins i k mask → FirstPins i (k + 1) mask'
+  pins_more i k p mask mask' e f g v h =
+      f v h ∙ ap (λ b. b || eqb v p) (g v h) ∙ sym (has_next (take k (pins_of nets i)) p v)
+      ∙ ap (λ xs. has xs v) (sym (nth_next (pins_of nets i) k p (e ∙ pin_nth nets i k)))
 
-  all_pins : (row : List ℕ) (i k mask : ℕ) → length (pins_of nets i) ≤ k → FirstPins row i k mask → PinGroups nets row i mask
-  all_pins row i k mask h g v b = g v b ∙ ap (λ xs. has (map (place row) xs) v) (take_all k (pins_of nets i) h)
+  module _ (m i k mask : ℕ) (few : m ≤ 64) (there : OnPins (AllByRecursion (λ pin. pin < m)) nets) where
+    all_pins : length (pins_of nets i) ≤ k → FirstPins i k mask → SetOf mask (pins_of nets i)
+    all_pins h g v =
+        ⊎_elim
+        (λ b. g v b ∙ ap (λ xs. has xs v) (take_all k (pins_of nets i) h))
+        (λ b. has_past mask v b ∙ sym (⊎_elim (λ y. absurd (too_great b y)) (λ y. y) (cases_Bool (has (pins_of nets i) v))))
+        (cases_lt v 64)
+      where
+        too_great : 64 ≤ v → has (pins_of nets i) v ≡ true → ⊥
+        too_great b y = omega (arith, few, all_member (λ pin. pin < m) (pins_of nets i) v (pins_on (AllByRecursion (λ pin. pin < m)) nets i tt there) y)
 
-  pub pins_ended : (row : List ℕ) (i k mask : ℕ) → None ≡ pin_at nets i k → FirstPins row i k mask → PinGroups nets row i mask
-  pins_ended row i k mask e = all_pins row i k mask (nth_past (pins_of nets i) k (e ∙ pin_nth nets i k))
+    pub pins_ended : None ≡ pin_at nets i k → FirstPins i k mask → SetOf mask (pins_of nets i)
+    pins_ended e = all_pins (nth_past (pins_of nets i) k (e ∙ pin_nth nets i k))
 
-  pub pins_full : (row : List ℕ) (i k mask : ℕ) → OnPins (λ pins. length pins ≤ 64) nets → 64 ≤ k → FirstPins row i k mask → PinGroups nets row i mask
-  pins_full row i k mask o h = all_pins row i k mask (let s : length (pins_of nets i) ≤ 64 = pins_on (λ pins. length pins ≤ 64) nets i (omega arith) o in omega arith)
+    pub pins_full : OnPins (λ pins. length pins ≤ 64) nets → 64 ≤ k → FirstPins i k mask → SetOf mask (pins_of nets i)
+    pins_full o h = all_pins (let s : length (pins_of nets i) ≤ 64 = pins_on (λ pins. length pins ≤ 64) nets i (omega arith) o in omega arith)
 
-  -- by a row of groups below 64 the set has no others
-  pub small_groups : (row : List ℕ) (i mask : ℕ) → ((v : ℕ) → place row v < 64) → PinGroups nets row i mask → SetOf mask (map (place row) (pins_of nets i))
-  small_groups row i mask small g v =
-      ⊎_elim
-      (g v)
-      (λ b. has_past mask v b ∙ sym (⊎_elim (λ y. absurd (too_great b (member_of_map (place row) (pins_of nets i) v y))) (λ y. y) (cases_Bool (has (map (place row) (pins_of nets i)) v))))
-      (cases_lt v 64)
-    where
-      too_great : 64 ≤ v → Member (pins_of nets i) (λ p. v ≡ place row p) → ⊥
-      too_great b r = omega (arith, small r.0, r.2)
+net_nth : {P : Type 0} (nets : List (Net P)) (i : ℕ) (net : Net P) → slice_get nets i ≡ Some net → (i < length nets) × (net.pins ≡ pins_of nets i)
+net_nth [] i net e = absurd cc
+net_nth {P} (x ∷ nets) zero net e = (omega arith, let q : ◌≡◌ {A = Net P} x net = cc in sym (ap (λ (y : Net P). y.pins) q))
+net_nth (x ∷ nets) (suc i) net e = let h = net_nth nets i net e in (omega (arith, h.0), h.1)
 
-placed_nth : {P : Type 0} (row : List ℕ) (nets : List (Net P)) (i : ℕ) (net : Net P) → slice_get (placed row nets) i ≡ Some net → (i < length nets) × (net.pins ≡ map (place row) (pins_of nets i))
-placed_nth row [] i net e = absurd cc
-placed_nth {P} row (x ∷ nets) zero net e = (omega arith, pins_same e)
-  where
-    pins_same : Some (record { price = x.price; pins = map (place row) x.pins }) ≡ Some net → net.pins ≡ map (place row) x.pins
-    pins_same e = let q : ◌≡◌ {A = Net P} (record { price = x.price; pins = map (place row) x.pins }) net = cc in sym (ap (λ (y : Net P). y.pins) q)
-placed_nth row (x ∷ nets) (suc i) net e = let h = placed_nth row nets i net e in (omega (arith, h.0), h.1)
+-- the words of the first n nets
+abbrev pub FirstMasks : {P : Type 0} → List (Net P) → ℕ → List ℕ → Type 0
+FirstMasks nets n words = (i : ℕ) → i < n → SetOf (get_or words i 0) (pins_of nets i)
 
--- the words of the first n nets, by a row of groups
-abbrev pub FirstMasks : {P : Type 0} → List (Net P) → List ℕ → ℕ → List ℕ → Type 0
-FirstMasks nets row n words = (i : ℕ) → i < n → PinGroups nets row i (get_or words i 0)
-
-masks_more : {P : Type 0} (nets : List (Net P)) (row words : List ℕ) (n word : ℕ) → n < length words → PinGroups nets row n word → FirstMasks nets row n words
-    → FirstMasks nets row (n + 1) (set words n word)
-masks_more nets row words n word h f g i l v b =
-    ⊎_elim (λ q. ap (λ (x : ℕ). is_in x v) (get_or-set_other words n i word 0 (λ e. omega arith)) ∙ g i q v b)
+masks_more : {P : Type 0} (nets : List (Net P)) (words : List ℕ) (n word : ℕ) → n < length words → SetOf word (pins_of nets n) → FirstMasks nets n words
+    → FirstMasks nets (n + 1) (set words n word)
+masks_more nets words n word h f g i l v =
+    ⊎_elim (λ q. ap (λ (x : ℕ). is_in x v) (get_or-set_other words n i word 0 (λ e. omega arith)) ∙ g i q v)
     (λ q. (let e : n ≡ i = omega arith in
-    subst (λ (x : ℕ). is_in (get_or (set words n word) x 0) v ≡ has (map (place row) (pins_of nets x)) v) e (ap (λ (x : ℕ). is_in x v) (get_or-set_same words n word 0 h) ∙ f v b)))
+    subst (λ (x : ℕ). is_in (get_or (set words n word) x 0) v ≡ has (pins_of nets x) v) e (ap (λ (x : ℕ). is_in x v) (get_or-set_same words n word 0 h) ∙ f v)))
     (cases_lt i n)
 
 -- of elements that each have a word
-pub masks_set : {P X : Type 0} (word : X → ℕ) (nets : List (Net P)) (row : List ℕ) (masks : List X) (n : ℕ) (mask : X) → n < length masks → PinGroups nets row n (word mask)
-    → FirstMasks nets row n (map word masks) → FirstMasks nets row (n + 1) (map word (set masks n mask))
-masks_set word nets row masks n mask h f g =
-    subst (FirstMasks nets row (n + 1)) (sym (map-set word masks n mask)) (masks_more nets row (map word masks) n (word mask) (omega (arith, h, length-map masks word)) f g)
+pub masks_set : {P X : Type 0} (word : X → ℕ) (nets : List (Net P)) (masks : List X) (n : ℕ) (mask : X) → n < length masks → SetOf (word mask) (pins_of nets n)
+    → FirstMasks nets n (map word masks) → FirstMasks nets (n + 1) (map word (set masks n mask))
+masks_set word nets masks n mask h f g =
+    subst (FirstMasks nets (n + 1)) (sym (map-set word masks n mask)) (masks_more nets (map word masks) n (word mask) (omega (arith, h, length-map masks word)) f g)
 
-pub masks_all : {P : Type 0} (k : Kind P) (m : Meaning P) (row words : List ℕ) → ((v : ℕ) → place row v < 64) → FirstMasks (own_nets k m) row (length m.nets) words
-    → MasksOf words (grouped k m row)
-unfolding grouped
-masks_all k m row words small g i net e v =
-    let h : (i < length (own_nets k m)) × (net.pins ≡ map (place row) (pins_of (own_nets k m) i)) = placed_nth row (own_nets k m) i net e in
-    small_groups (own_nets k m) row i (get_or words i 0) small (g i (omega (arith, h.0, own_length k m))) v ∙ ap (λ xs. has xs v) (sym h.1)
+pub masks_all : {P : Type 0} (nets : List (Net P)) (n : ℕ) (words : List ℕ) → length nets ≤ n → FirstMasks nets n words → MasksOf words nets
+masks_all nets n words long g i net e v = let h = net_nth nets i net e in g i (omega (arith, h.0, long)) v ∙ ap (λ xs. has xs v) (sym h.1)

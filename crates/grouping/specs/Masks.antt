@@ -5,6 +5,7 @@ use Rattle.moduleset.specs.Words.{has as is_in}
 use Rattle.price.specs.Kind.{Kind}
 use Rattle.netlist.specs.Nets.{Net}
 use Rattle.netlist.specs.Places.{place, placed}
+use Rattle.netlist.specs.Changes.{united_place}
 use Rattle.netlist.specs.Meaning.{Meaning, own_nets}
 use Rattle.cut.specs.Cuts.{has}
 
@@ -30,9 +31,9 @@ SetOf set pins = (v : ℕ) → is_in set v ≡ has pins v
 abbrev pub MasksOf : {P : Type 0} → List ℕ → List (Net P) → Type 0
 MasksOf {P} words nets = (i : ℕ) (net : Net P) → slice_get nets i ≡ Some net → SetOf (slice_index words i) net.pins
 
--- of the groups below 64, the set has those of the pins of net i
-abbrev pub PinGroups : {P : Type 0} → List (Net P) → List ℕ → ℕ → ℕ → Type 0
-PinGroups nets row i set = (v : ℕ) → v < 64 → is_in set v ≡ has (map (place row) (pins_of nets i)) v
+-- Whatever groups the set is of, the new set is of those once groups a and b are one.
+pub record UnitedSet (a b set set' : ℕ) : Type 0 where
+  pub united : (pins : List ℕ) → SetOf set pins → SetOf set' (map (united_place a b) pins)
 
 -- the answer is module v
 abbrev pub names : Option ℕ → ℕ → Bool

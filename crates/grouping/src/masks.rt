@@ -1,28 +1,28 @@
-//! Nets as sets of modules, and the module at which a net pulls.
+//! Nets as sets of modules or of groups, and the module at which a net pulls.
 ghost use Rattle.std.specs.Prelude.{◌≡◌, ℕ, ◌<◌, false, List, length, map, IfSome, slice_index};
 ghost use Rattle.moduleset.specs.Words.{has as is_in};
 ghost use Rattle.netlist.specs.Meaning.{own_nets};
 ghost use Rattle.cut.specs.Cuts.{pulls};
-ghost use Rattle.grouping.specs.Masks.{PinGroups, SetOf, names};
+ghost use Rattle.grouping.specs.Masks.{SetOf, UnitedSet, pins_of, names};
 
 use moduleset::ModuleSet;
 use netlist::Netlist;
 use price::Price;
 
-/// Of each net the groups of its pins, so that no step asks for the pins again.
-pub fn gather<N: Netlist>(netlist: &N, row: [u8; 64]) -> [ModuleSet; 1024]
-    ensures { (i : ℕ) → i < length (N.meaning netlist.now).nets → PinGroups (own_nets N.Price.Price.kind (N.meaning netlist.now)) row i (slice_index (map (λ mask. mask.word) result) i) }
+/// Of each net the modules of its pins, so that no step asks for the pins again.
+pub fn gather<N: Netlist>(netlist: &N) -> [ModuleSet; 1024]
+    ensures { (i : ℕ) → i < length (N.meaning netlist.now).nets → SetOf (slice_index (map (λ mask. mask.word) result) i) (pins_of (own_nets N.Price.Price.kind (N.meaning netlist.now)) i) }
 {
     let mut masks = [ModuleSet::empty(); 1024];
     for (i, mask) in masks[..netlist.net_count()].iter_mut().enumerate() {
-        *mask = net_mask(netlist, i, row);
+        *mask = net_mask(netlist, i);
     }
     masks
 }
 
-/// The groups of a net's pins.
-fn net_mask<N: Netlist>(netlist: &N, net: usize, row: [u8; 64]) -> ModuleSet
-    ensures { PinGroups (own_nets N.Price.Price.kind (N.meaning netlist.now)) row net result.word }
+/// The modules of a net's pins.
+fn net_mask<N: Netlist>(netlist: &N, net: usize) -> ModuleSet
+    ensures { SetOf result.word (pins_of (own_nets N.Price.Price.kind (N.meaning netlist.now)) net) }
 {
     let mut mask = ModuleSet::empty();
     // A loop over `(0..64).map_while(..)`: tried, and the check stops at the type of its iterator.
@@ -30,9 +30,33 @@ fn net_mask<N: Netlist>(netlist: &N, net: usize, row: [u8; 64]) -> ModuleSet
         let Some(pin) = netlist.pin(net, k) else {
             break;
         };
-        mask = mask.with(row[pin as usize]);
+        mask = mask.with(pin);
     }
     mask
+}
+
+/// Of each net the groups of its pins, once groups `a` and `b` are one.
+pub fn united_masks(masks: [ModuleSet; 1024], a: u8, b: u8) -> [ModuleSet; 1024]
+    ensures { (i : ℕ) → i < 1024 → UnitedSet a b (slice_index (map (λ mask. mask.word) masks) i) (slice_index (map (λ mask. mask.word) result) i) }
+{
+    masks.map(
+        move |mask|
+            ensures { UnitedSet a b mask.word result.word }
+        { united_mask(mask, a, b) },
+    )
+}
+
+/// The groups of a net's pins, once groups `a` and `b` are one.
+fn united_mask(mask: ModuleSet, a: u8, b: u8) -> ModuleSet
+    ensures { UnitedSet a b mask.word result.word }
+{
+    let higher = a.max(b);
+    let closed = mask.closed_up(higher);
+    if mask.has(higher) {
+        closed.with(a.min(b))
+    } else {
+        closed
+    }
 }
 
 /// The module at which a net pulls: the net has a pin there, one among those taken and none elsewhere.

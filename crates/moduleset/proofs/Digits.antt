@@ -4,6 +4,7 @@ use native.Mathlib.Nat.{zero-div, div-eq_of_lt, mul-mod_left}
 use lib.Bits.{bit_and, bit_or, bit_xor, and_shr, or_shr, xor_shr, and_mod, or_mod, xor_mod, and_mask, xor_add_and}
 use lib.Pow.{ones_split, ones_lt}
 use lib.Arith.{lt-one}
+use Rattle.std.proofs.Math.Bool.{and-true}
 use Rattle.std.proofs.lemmas.Bool.{cases_lt}
 use Rattle.std.proofs.lemmas.Nat.{shr_high, mod_low, pow_below}
 use Rattle.moduleset.specs.Words.{digit}
@@ -103,6 +104,14 @@ pub digit_shifted : (n i j : ℕ) → digit (n / 2 ^ i) j ≡ digit n (i + j)
 unfolding digit
 digit_shifted n i j = ap (λ (x : ℕ). eqb (x % 2) 1) (shr-shr n i j)
 
+-- the digits of the double are the digits one down
+pub digit_doubled : (n j : ℕ) → digit (n * 2 ^ 1) (suc j) ≡ digit n j
+digit_doubled n j = sym (digit_half (n * 2) j) ∙ ap (λ (x : ℕ). digit x j) (omega arith)
+
+pub digit_doubled_low : (n : ℕ) → digit (n * 2 ^ 1) 0 ≡ false
+unfolding digit
+digit_doubled_low n = let e : n * 2 ^ 1 / 2 ^ 0 % 2 ≡ 0 = omega arith in ap (λ (x : ℕ). eqb x 1) e
+
 low_digit : (x y : ℕ) → x < 2 → y < 2 → eqb x 1 ≡ eqb y 1 → x ≡ y
 low_digit zero zero p q e = refl
 low_digit zero (suc zero) p q e = let z : ◌≡◌ {A = ℕ} 0 1 = cc in z
@@ -136,6 +145,10 @@ digit_all n j h =
     ap (λ (x : ℕ). (2 ^ x - 1) / 2 ^ j) e ∙ ap (λ (x : ℕ). x / 2 ^ j) (ones_split (d + 1) j) ∙ shr_high (2 ^ (d + 1) - 1) j (2 ^ j - 1) (ones_lt j) in
     let t : (2 ^ (d + 1) - 1) % 2 ≡ 1 = ap (λ (x : ℕ). x % 2) (ones_split d 1) ∙ mod_low (2 ^ d - 1) 1 1 (lit< tt) in
     ap (λ (x : ℕ). eqb x 1) (ap (λ (x : ℕ). x % 2) s ∙ t)
+
+-- the digits below n are kept by the remainder
+pub digit_below : (n w j : ℕ) → j < n → digit (w % 2 ^ n) j ≡ digit w j
+digit_below n w j h = ap (λ (x : ℕ). digit x j) (sym (and_mask w n)) ∙ digit_and w (2 ^ n - 1) j ∙ ap (λ b. digit w j && b) (digit_all n j h) ∙ and-true (digit w j)
 
 -- what `!` does at n digits
 pub complement_xor : (n w : ℕ) → w < 2 ^ n → (2 ^ n - 1) - w ≡ bit_xor w (2 ^ n - 1)

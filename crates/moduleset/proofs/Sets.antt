@@ -1,10 +1,11 @@
 -- Laws of the sets of modules, by what they have.
-use Rattle.std.proofs.Common.{◌≡◌, ℕ, suc, ◌+◌, ◌-◌, ◌/◌, ◌^◌, ◌<◌, ◌≤◌, Bool, true, false, not, ◌&&◌, ◌||◌, eqb, ltb, leb, Decides, sym, refl, ap, ◌∙◌, ap₂, ⊎_elim, arith, lit<, pow_mono}
+use Rattle.std.proofs.Common.{◌≡◌, ℕ, suc, ◌+◌, ◌-◌, ◌*◌, ◌/◌, ◌%◌, ◌^◌, ◌<◌, ◌≤◌, Bool, true, false, cond, not, ◌&&◌, ◌||◌, eqb, ltb, leb, Decides, sym, refl, ap, ◌∙◌, ap₂, ⊎_elim, arith, lit<, pow_mono}
 use lib.Bits.{bit_and, bit_or, and_mask, and_le_l}
 use lib.Count.{count_leading_zeros, leading_top}
 use Rattle.std.proofs.lemmas.Bool.{eq-eqb, ne_eqb, eqb-true, eqb-false, cases_lt, cases_order, lt-ltb, le-ltb, le-leb, lt-leb, and_left, and_from, and_parts, false≢true, both_ways, not-true, not_from_false}
-use Rattle.moduleset.specs.Words.{digit, has}
-use Rattle.moduleset.proofs.Digits.{digit_or, digit_and, digit_zero, digit_above, digit_top, digit_power, digit_power_other, digit_complement, digit_shifted, digit_all, same_digits}
+use Rattle.std.proofs.lemmas.Bool.Decides.{nat_tests}
+use Rattle.moduleset.specs.Words.{digit, has, opened_at}
+use Rattle.moduleset.proofs.Digits.{digit_or, digit_and, digit_zero, digit_above, digit_top, digit_power, digit_power_other, digit_complement, digit_shifted, digit_all, digit_doubled, digit_doubled_low, digit_below, same_digits}
 
 pub has_digit : (w k : ℕ) → k < 64 → has w k ≡ digit w (63 - k)
 unfolding has
@@ -55,6 +56,36 @@ has_at_or_past f k p h =
     (λ l. digit_above (2 ^ 64 - 1) (f + (63 - k)) (omega (arith, pow_mono {i = 64} {j = f + (63 - k)} (omega arith))) ∙ sym (lt-leb f k l))
     (λ l. digit_all 64 (f + (63 - k)) (omega arith) ∙ sym (le-leb f k l))
     (cases_lt k f)
+
+-- each module numbered one lower
+pub has_one_lower : (w k : ℕ) → k < 64 → has (w * 2 ^ 1 % 2 ^ 64) k ≡ has w (suc k)
+has_one_lower w k h = has_digit _ k h ∙ digit_below 64 (w * 2 ^ 1) (63 - k) (omega arith) ∙ ⊎_elim inner last (cases_lt (suc k) 64)
+  where
+    inner : suc k < 64 → digit (w * 2 ^ 1) (63 - k) ≡ has w (suc k)
+    inner l = ap (digit (w * 2 ^ 1)) (let e : 63 - k ≡ suc (63 - suc k) = omega arith in e) ∙ digit_doubled w (63 - suc k) ∙ sym (has_digit w (suc k) l)
+
+    last : 64 ≤ suc k → digit (w * 2 ^ 1) (63 - k) ≡ has w (suc k)
+    last l = ap (digit (w * 2 ^ 1)) (let e : 63 - k ≡ 0 = omega arith in e) ∙ digit_doubled_low w ∙ sym (has_past w (suc k) l)
+
+closed_tests : (p q : Bool) (v k : ℕ) → ((p && not (leb v k)) || ((q && not (q && not (leb v (suc k)))) && not (eqb (suc k) v))) ≡ cond (ltb k v) p q
+closed_tests p q v k = grind (arith, nat_tests)
+
+-- the modules before v, and those after it one lower
+pub closed_has : (w v before left after lowered result : ℕ) → ((k : ℕ) → k < 64 → has before k ≡ (has w k && not (leb v k))) → ((k : ℕ) → has left k ≡ (has w k && not (has before k)))
+    → ((k : ℕ) → k < 64 → has after k ≡ (has left k && not (eqb k v))) → ((k : ℕ) → k < 64 → has lowered k ≡ has after (suc k))
+    → ((k : ℕ) → has result k ≡ (has before k || has lowered k)) → (k : ℕ) → k < 64 → has result k ≡ has w (opened_at v k)
+closed_has w v before left after lowered result b l a o u k h =
+    u k ∙ ap₂ ◌||◌ (b k h) (o k h ∙ ⊎_elim inner last (cases_lt (suc k) 64)) ∙ closed_tests (has w k) (has w (suc k)) v k ∙ picked (ltb k v)
+  where
+    inner : suc k < 64 → has after (suc k) ≡ ((has w (suc k) && not (has w (suc k) && not (leb v (suc k)))) && not (eqb (suc k) v))
+    inner i = a (suc k) i ∙ ap (λ t. t && not (eqb (suc k) v)) (l (suc k) ∙ ap (λ t. has w (suc k) && not t) (b (suc k) i))
+
+    last : 64 ≤ suc k → has after (suc k) ≡ ((has w (suc k) && not (has w (suc k) && not (leb v (suc k)))) && not (eqb (suc k) v))
+    last i = has_past after (suc k) i ∙ sym (ap (λ t. (t && not (t && not (leb v (suc k)))) && not (eqb (suc k) v)) (has_past w (suc k) i))
+
+    picked : (t : Bool) → cond t (has w k) (has w (suc k)) ≡ has w (cond t k (suc k))
+    picked true = refl
+    picked false = refl
 
 -- the word with module v alone
 pub has_one : (v k : ℕ) → v < 64 → k < 64 → has (2 ^ (63 - v)) k ≡ eqb k v

@@ -23,3 +23,7 @@ abbrev pub lone : List ℕ → Option ℕ
 lone [] = None
 lone (v ∷ []) = Some v
 lone (v ∷ w ∷ ws) = None
+
+-- the module that has number k once module n is taken out and the later ones are numbered one lower
+abbrev pub opened_at : ℕ → ℕ → ℕ
+opened_at n k = cond (nat_lt k n) k (suc k)

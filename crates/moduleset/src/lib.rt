@@ -1,9 +1,9 @@
 //! Sets of modules below 64, one bit a module, module 0 the most significant.
 #![tactic(auto)]
 
-ghost use Rattle.std.specs.Prelude.{◌≡◌, ℕ, ◌<◌, true, false, not, ◌&&◌, ◌||◌, length, Decides, ◌==◌, nat_le};
+ghost use Rattle.std.specs.Prelude.{◌≡◌, ℕ, suc, ◌<◌, true, false, not, ◌&&◌, ◌||◌, length, Decides, ◌==◌, nat_le};
 ghost use Rattle.std.specs.List.{slice_get};
-ghost use Rattle.moduleset.specs.Words.{has as is_in, members, lone};
+ghost use Rattle.moduleset.specs.Words.{has as is_in, members, lone, opened_at};
 
 /// A set of modules. A module number of 64 or more is in no set.
 #[derive(Clone, Copy, PartialEq, Eq, Debug)]
@@ -87,6 +87,24 @@ impl ModuleSet {
         ModuleSet {
             word: self.word & !other.word,
         }
+    }
+
+    /// The set with each module numbered one lower; module 0 is left out.
+    fn one_lower(self) -> ModuleSet
+        ensures { (k : ℕ) → k < 64 → is_in result.word k ≡ is_in self.word (suc k) }
+    {
+        ModuleSet {
+            word: self.word << 1,
+        }
+    }
+
+    /// The set without a module, the later ones numbered one lower.
+    pub fn closed_up(self, number: u8) -> ModuleSet
+        ensures { (k : ℕ) → k < 64 → is_in result.word k ≡ is_in self.word (opened_at number k) }
+    {
+        let before = self.minus(ModuleSet::at_or_past(number as usize));
+        let after = self.minus(before).without(number);
+        before.union(after.one_lower())
     }
 
     /// Whether every module is in the other set too.

@@ -5,3 +5,4 @@ pub mod Turns
 pub mod OrderAnswers
 pub mod RoundSteps
 pub mod HomeSides
+mod NextGroups

@@ -70,8 +70,8 @@ abbrev pub Ended : {P : Type 0} → Kind P → List (Net P) → ℕ → List ℕ
 Ended k nets g row noted next cells cells' = SameSplit noted (round_noted k nets g row) × (next ≡ round_row k nets g row) × (cells' ≡ cleared k g cells)
 
 -- what holds of the round that is made holds of what it was asked to be
-pub as_asked : {N : Type 0} (T : N → ℕ → List ℕ → Type 0) {n n' : N} {g g' : ℕ} {row row' : List ℕ} → n ≡ n' → g ≡ g' → row ≡ row' → T n g row → T n' g' row'
-as_asked T {n' = n'} {g = g} {g' = g'} {row = row} e f h t = subst (T n' g') h (subst (λ (x : ℕ). T n' x row) f (subst (λ x. T x g row) e t))
+pub as_asked : {N G : Type 0} (T : N → ℕ → G → Type 0) {n n' : N} {g g' : ℕ} {groups groups' : G} → n ≡ n' → g ≡ g' → groups ≡ groups' → T n g groups → T n' g' groups'
+as_asked T {n' = n'} {g = g} {g' = g'} {groups = groups} e f h t = subst (T n' g') h (subst (λ (x : ℕ). T n' x groups) f (subst (λ x. T x g groups) e t))
 
 -- each module alone is a group of its own
 pub alone_row : (m count : ℕ) (row : List ℕ) → m ≤ 64 → count ≡ m → length row ≡ 64 → ((v : ℕ) → place row v < 64) → ((v : ℕ) → v < 64 → place row v ≡ v) → GroupRow m count row

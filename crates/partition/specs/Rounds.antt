@@ -1,13 +1,16 @@
 -- Rounds over a netlist's modules, with sets of modules as 64-bit words.
-use Rattle.std.specs.Prelude.{◌≡◌, ℕ, suc, ◌<◌, List, length, Some}
+use Rattle.std.specs.Prelude.{◌≡◌, ℕ, suc, ◌<◌, List, length, map, Some}
 use Rattle.moduleset.specs.Words.{has as is_in}
 use Rattle.price.specs.Kind.{Kind}
 use Rattle.netlist.specs.Nets.{Net}
 use Rattle.netlist.specs.Places.{place}
+use Rattle.netlist.specs.Meaning.{Meaning}
 use Rattle.netlist.specs.Changes.{united}
 use Rattle.cut.specs.Lawful.{Split}
 use Rattle.cut.specs.Rounds.{parting, cheapest_of}
 use Rattle.cut.specs.ModuleRounds.{counted_ending, counted}
+use Rattle.grouping.specs.Masks.{grouped, MasksOf}
+use Rattle.partition.specs.declared.groups.Groups.{Groups}
 use Rattle.partition.specs.declared.round.Noted.{Noted}
 
 -- the split with a set of modules on side B
@@ -28,6 +31,10 @@ pub record GroupRow (m g : ℕ) (row : List ℕ) : Type 0 where
   pub long : length row ≡ 64
   pub small : (v : ℕ) → place row v < 64
   pub below : (v : ℕ) → v < m → place row v < g
+
+-- of each net the groups of its pins
+abbrev pub NetGroups : {P : Type 0} → Kind P → Meaning P → Groups → Type 0
+NetGroups k m groups = MasksOf (map (λ mask. mask.word) groups.masks) (grouped k m groups.row)
 
 -- A row of 64 places in which each module is a group of its own.
 pub record EachAlone (row : List ℕ) : Type 0 where

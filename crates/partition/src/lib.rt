@@ -1,6 +1,7 @@
 //! The order of a netlist's modules, and its cheapest split.
 #![tactic(auto)]
 
+mod groups;
 pub mod ordering;
 mod pull_row;
 mod round;

@@ -1,11 +1,11 @@
 //! The order of a netlist's modules.
 ghost use Rattle.partition.specs.Orders.{OrderCall, LastTwoParted};
 
+use crate::groups::Groups;
 use crate::round::Round;
 use netlist::Netlist;
 use price::Price;
 use refusal::Fault;
-use rows::singles;
 
 /// Writes the order of the modules into the first bytes, and answers the price of parting off the last alone:
 /// no split that parts the last two is cheaper. Leaves as many first cells as modules zero, and later cells and bytes as they were.
@@ -30,6 +30,6 @@ pub fn order<N: Netlist>(
     if count < 2 {
         return Err(Fault::TooFewGroups);
     }
-    let round = Round::new(netlist, singles(), count as u8);
+    let round = Round::new(netlist, Groups::singles(netlist), count as u8);
     Ok(round.order(&mut cells[..count], &mut bytes[..count]))
 }

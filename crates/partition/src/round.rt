@@ -1,20 +1,19 @@
 //! A round over a netlist: the groups, and their order, step by step.
-ghost use Rattle.std.specs.Prelude.{◌≡◌, ℕ, ◌<◌, ◌≤◌, length, map, replicate};
+ghost use Rattle.std.specs.Prelude.{◌≡◌, ℕ, ◌<◌, ◌≤◌, length, replicate};
 ghost use Rattle.netlist.specs.Places.{place as place_in};
 ghost use Rattle.netlist.specs.Meaning.{modules, own_nets};
 ghost use Rattle.cut.specs.Cuts.{split_price, alone};
 ghost use Rattle.cut.specs.Orders.{order as order_in, ending};
-ghost use Rattle.grouping.specs.Masks.{grouped, MasksOf};
+ghost use Rattle.grouping.specs.Masks.{grouped};
 ghost use Rattle.partition.specs.Pulls.{cleared, KeysArePulls, TakesGreatest, pulled};
-ghost use Rattle.partition.specs.Rounds.{by_noted, SameSplit, GroupRow, round_noted, round_row};
+ghost use Rattle.partition.specs.Rounds.{by_noted, SameSplit, GroupRow, NetGroups, round_noted, round_row};
 
+use crate::groups::Groups;
 use crate::pull_row::{PullRow, clear};
 use grouping::groups::group_set;
-use grouping::masks::gather;
 use moduleset::ModuleSet;
 use netlist::Netlist;
 use price::Price;
-use rows::united_row;
 
 /// A split that a round notes: the modules on side B, and its price.
 #[derive(Clone, Copy)]
@@ -23,51 +22,49 @@ pub(crate) struct Noted<P> {
     pub(crate) price: P,
 }
 
-/// What a round notes, and the groups that it leaves: a row of 64 bytes that is passed on by value.
+/// What a round notes, and the groups that it leaves.
 #[derive(Clone, Copy)]
 pub(crate) struct RoundEnd<P> {
     pub(crate) noted: Noted<P>,
-    pub(crate) row: [u8; 64],
+    pub(crate) groups: Groups,
 }
 
-/// The groups of a round, in a row of 64 bytes that is passed on by value, and of each net the groups of its pins.
-/// There are two groups and more.
+/// A round over so many groups of a netlist's modules, two and more.
 #[derive(Drop)]
 pub(crate) struct Round<'a, N: Netlist> {
     netlist: &'a N,
     count: u8,
-    row: [u8; 64],
-    // An array, of which as many count as the netlist has nets: a vector would keep that number a second time.
-    masks: [ModuleSet; 1024],
+    groups: Groups,
     ghost several: { 1 < count },
     ghost few: { count ≤ 64 },
-    ghost within: { (v : ℕ) → v < modules (N.meaning netlist.now) → place_in row v < count },
-    ghost gathered: { MasksOf (map (λ mask. mask.word) masks) (grouped N.Price.Price.kind (N.meaning netlist.now) row) },
+    ghost within: { (v : ℕ) → v < modules (N.meaning netlist.now) → place_in groups.row v < count },
+    ghost nets: { NetGroups N.Price.Price.kind (N.meaning netlist.now) groups },
 }
 
 impl<'a, N: Netlist> Round<'a, N> {
-    /// The round over so many groups, by the row of the modules' groups.
-    pub(crate) fn new(netlist: &'a N, row: [u8; 64], count: u8) -> Round<'a, N>
+    /// The round over so many groups.
+    pub(crate) fn new(netlist: &'a N, groups: Groups, count: u8) -> Round<'a, N>
         requires several { 1 < count }
         requires few { count ≤ 64 }
-        requires groups { GroupRow (modules (N.meaning netlist.now)) count row }
+        requires row { GroupRow (modules (N.meaning netlist.now)) count groups.row }
+        requires nets { NetGroups N.Price.Price.kind (N.meaning netlist.now) groups }
         ensures netlist { result.netlist.now ≡ netlist.now }
-        ensures row { result.row ≡ row }
+        ensures groups { result.groups ≡ groups }
         ensures count { result.count ≡ count }
     {
         Round {
             netlist,
             count,
-            row,
-            masks: gather(netlist, row),
+            groups,
         }
     }
 
     /// Parts off the last of the order, and unites the last two.
     pub(crate) fn part_last(&self, cells: &mut [N::Price]) -> RoundEnd<N::Price>
         requires { self.now.count ≤ length cells.old }
-        ensures noted { SameSplit (by_noted result.noted) (round_noted N.Price.Price.kind (own_nets N.Price.Price.kind (N.meaning self.now.netlist.now)) self.now.count self.now.row) }
-        ensures next { result.row ≡ round_row N.Price.Price.kind (own_nets N.Price.Price.kind (N.meaning self.now.netlist.now)) self.now.count self.now.row }
+        ensures noted { SameSplit (by_noted result.noted) (round_noted N.Price.Price.kind (own_nets N.Price.Price.kind (N.meaning self.now.netlist.now)) self.now.count self.now.groups.row) }
+        ensures next { result.groups.row ≡ round_row N.Price.Price.kind (own_nets N.Price.Price.kind (N.meaning self.now.netlist.now)) self.now.count self.now.groups.row }
+        ensures nets { NetGroups N.Price.Price.kind (N.meaning self.now.netlist.now) result.groups }
         ensures cells { cells.new ≡ cleared N.Price.Price.kind self.now.count cells.old }
     {
         let mut bytes = [0u8; 64];
@@ -77,10 +74,10 @@ impl<'a, N: Netlist> Round<'a, N> {
         let next_to_last = order[order.len() - 2];
         RoundEnd {
             noted: Noted {
-                sides: group_set(self.row, last),
+                sides: group_set(self.groups.row, last),
                 price,
             },
-            row: united_row(self.row, next_to_last, last),
+            groups: self.groups.united(next_to_last, last),
         }
     }
 
@@ -88,9 +85,9 @@ impl<'a, N: Netlist> Round<'a, N> {
     pub(crate) fn order(&self, cells: &mut [N::Price], bytes: &mut [u8]) -> N::Price
         requires room { length cells.old ≡ self.now.count }
         requires long { length bytes.old ≡ self.now.count }
-        ensures order { bytes.new ≡ order_in N.Price.Price.kind (grouped N.Price.Price.kind (N.meaning self.now.netlist.now) self.now.row) self.now.count }
+        ensures order { bytes.new ≡ order_in N.Price.Price.kind (grouped N.Price.Price.kind (N.meaning self.now.netlist.now) self.now.groups.row) self.now.count }
         ensures cells { cells.new ≡ replicate self.now.count N.Price.Price.kind.zero }
-        ensures price { result ≡ split_price N.Price.Price.kind (alone (ending bytes.new).last) (grouped N.Price.Price.kind (N.meaning self.now.netlist.now) self.now.row) }
+        ensures price { result ≡ split_price N.Price.Price.kind (alone (ending bytes.new).last) (grouped N.Price.Price.kind (N.meaning self.now.netlist.now) self.now.groups.row) }
     {
         let taken = ModuleSet::at_or_past(self.count as usize).with(0);
         let mut pulls = PullRow {
@@ -112,8 +109,8 @@ impl<'a, N: Netlist> Round<'a, N> {
 
     /// Takes the group most pulled by those taken, the lowest on equal pulls. Its key is its pull.
     fn take_next(&self, pulls: &mut PullRow<'_, N::Price>) -> Option<u8>
-        ensures took { TakesGreatest N.Price.Price.kind (pulled N.Price.Price.kind (grouped N.Price.Price.kind (N.meaning self.now.netlist.now) self.now.row) pulls.old.taken.word) pulls.old.taken.word pulls.new.taken.word result }
-        ensures keys { KeysArePulls N.Price.Price.kind (grouped N.Price.Price.kind (N.meaning self.now.netlist.now) self.now.row) pulls.old.taken.word pulls.new.cells.now }
+        ensures took { TakesGreatest N.Price.Price.kind (pulled N.Price.Price.kind (grouped N.Price.Price.kind (N.meaning self.now.netlist.now) self.now.groups.row) pulls.old.taken.word) pulls.old.taken.word pulls.new.taken.word result }
+        ensures keys { KeysArePulls N.Price.Price.kind (grouped N.Price.Price.kind (N.meaning self.now.netlist.now) self.now.groups.row) pulls.old.taken.word pulls.new.cells.now }
         ensures long { length pulls.new.cells.now ≡ length pulls.old.cells.now }
     {
         self.set_keys(pulls);
@@ -122,12 +119,12 @@ impl<'a, N: Netlist> Round<'a, N> {
 
     /// Makes the key of each group that waits its pull toward those taken: the prices of the nets that pull there, joined.
     fn set_keys(&self, pulls: &mut PullRow<'_, N::Price>)
-        ensures keys { KeysArePulls N.Price.Price.kind (grouped N.Price.Price.kind (N.meaning self.now.netlist.now) self.now.row) pulls.old.taken.word pulls.new.cells.now }
+        ensures keys { KeysArePulls N.Price.Price.kind (grouped N.Price.Price.kind (N.meaning self.now.netlist.now) self.now.groups.row) pulls.old.taken.word pulls.new.cells.now }
         ensures long { length pulls.new.cells.now ≡ length pulls.old.cells.now }
         ensures taken { pulls.new.taken ≡ pulls.old.taken }
     {
         clear(pulls.cells);
-        for (i, mask) in self.masks.iter().enumerate() {
+        for (i, mask) in self.groups.masks.iter().enumerate() {
             let Some(price) = self.netlist.price(i) else {
                 break;
             };

@@ -4,10 +4,10 @@ ghost use Rattle.netlist.specs.Meaning.{modules, own_nets};
 ghost use Rattle.cut.specs.Rounds.{cheaper as cheaper_of};
 ghost use Rattle.partition.specs.Rounds.{by_noted, FoundOver};
 
+use crate::groups::Groups;
 use crate::round::{Noted, Round};
 use netlist::Netlist;
 use price::Price;
-use rows::singles;
 
 /// All rounds over two modules and more: the noted split of lowest price, the earliest on equal prices.
 pub(crate) fn split_modules<N: Netlist>(
@@ -21,13 +21,13 @@ pub(crate) fn split_modules<N: Netlist>(
     ensures found { FoundOver N.Price.Price.kind (own_nets N.Price.Price.kind (N.meaning netlist.now)) count (by_noted result) }
     ensures later { drop count cells.new ≡ drop count cells.old }
 {
-    let first = Round::new(netlist, singles(), count).part_last(cells);
+    let first = Round::new(netlist, Groups::singles(netlist), count).part_last(cells);
     let mut best = first.noted;
-    let mut row = first.row;
-    for groups in (2..count).rev() {
-        let next = Round::new(netlist, row, groups).part_last(cells);
+    let mut groups = first.groups;
+    for left in (2..count).rev() {
+        let next = Round::new(netlist, groups, left).part_last(cells);
         best = best.or_cheaper(next.noted);
-        row = next.row;
+        groups = next.groups;
     }
     best
 }
