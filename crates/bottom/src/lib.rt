@@ -22,7 +22,7 @@ pub fn check_counts(modules: usize, nets: usize) -> Result<(), Fault>
     Ok(())
 }
 
-/// Refuses the first net with fewer than two pins, where there is one.
+/// Refuses the net that is handed in, the first with fewer than two pins, where there is one.
 pub fn check_few_pins(first: Option<usize>) -> Result<(), Fault>
     ensures { result ≡ checked (option_map (λ net. TooFewPins (Net net)) first) }
 {

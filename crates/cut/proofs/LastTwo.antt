@@ -4,7 +4,8 @@ use Rattle.std.specs.List.{AllByRecursion}
 use Rattle.std.proofs.lemmas.Bool.{both_ways, eqb-true, eq-eqb, and_parts, or_cases}
 use Rattle.price.specs.Kind.{Kind, NotGreater, Laws}
 use Rattle.netlist.specs.Nets.{Net, OnPins}
-use Rattle.cut.specs.Cuts.{every, has, crosses, pulls, total, pull, split_price, alone}
+use Rattle.cut.specs.Cuts.{has, crosses, pulls, total, pull, split_price, alone}
+use Rattle.std.specs.List.{list_all}
 use Rattle.cut.specs.Orders.{TakenAsListed, IsOrder, Ending, ending_after, ending}
 use Rattle.cut.specs.OrderLaws.{LastParted, LastPartedCheapest}
 use Rattle.cut.proofs.Members.{has_head, has_tail, has_at_head, has_one, Member, any_member, member_any, members_every, all_member, same_tests, crosses_by, crossing_pins, pulls_parts, pulls_from}
@@ -42,7 +43,7 @@ module _ {P : Type 0} (k : Kind P) (l : Laws k) (nets : List (Net P)) (m : ℕ) 
         none_cheaper = λ side d.
             subst (λ z. NotGreater k z (split_price k side nets)) e
             (le_trans k l (pull k nets v (has (u ∷ before))) (total k (crosses_within side (has (v ∷ u ∷ before))) nets) (split_price k side nets) ((b side).0 d)
-            (total_le k l (crosses_within side (has (v ∷ u ∷ before))) (crosses side) nets (λ ps h. (and_parts (crosses side ps) (every (has (v ∷ u ∷ before)) ps) h).0)));
+            (total_le k l (crosses_within side (has (v ∷ u ∷ before))) (crosses side) nets (λ ps h. (and_parts (crosses side ps) (list_all (has (v ∷ u ∷ before)) ps) h).0)));
       }
 
   pub order_last_parted : 1 < m → (list : List ℕ) → IsOrder k nets m list → LastParted k nets (ending list)

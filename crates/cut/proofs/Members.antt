@@ -2,7 +2,8 @@
 use Rattle.std.proofs.Common.{◌≡◌, ℕ, Bool, true, false, not, ◌&&◌, ◌||◌, eqb, ◌⊎◌, List, [], ◌∷◌, map, sym, refl, ap, ◌∙◌, subst, ap₂, inl, inr, ⊎_elim}
 use Rattle.std.specs.List.{AllByRecursion}
 use Rattle.std.proofs.lemmas.Bool.{true≢false, false≢true, not-true, eqb-true, eq-eqb, cases_Bool, and_parts, and_from, and_cases, or_cases, or_left, or_right, not_from_false}
-use Rattle.cut.specs.Cuts.{any, every, has, crosses, pulls}
+use Rattle.cut.specs.Cuts.{has, crosses, pulls}
+use Rattle.std.specs.List.{list_any, list_all}
 
 pub has_head : (v : ℕ) (vs : List ℕ) → has (v ∷ vs) v ≡ true
 has_head v vs = or_left (eqb v v) (has vs v) (eq-eqb v v refl)
@@ -26,36 +27,36 @@ Member list A = (p : ℕ) × (has list p ≡ true) × A p
 member_tail : (x : ℕ) (xs : List ℕ) (A : ℕ → Type 0) → Member xs A → Member (x ∷ xs) A
 member_tail x xs A m = (m.0, has_tail x xs m.0 m.1, m.2)
 
-pub any_member : (test : ℕ → Bool) (xs : List ℕ) → any test xs ≡ true → Member xs (λ p. test p ≡ true)
+pub any_member : (test : ℕ → Bool) (xs : List ℕ) → list_any test xs ≡ true → Member xs (λ p. test p ≡ true)
 any_member test [] h = absurd (false≢true h)
 any_member test (x ∷ xs) h =
-    ⊎_elim (λ e. (x, has_head x xs, e)) (λ e. member_tail x xs (λ p. test p ≡ true) (any_member test xs e)) (or_cases (test x) (any test xs) h)
+    ⊎_elim (λ e. (x, has_head x xs, e)) (λ e. member_tail x xs (λ p. test p ≡ true) (any_member test xs e)) (or_cases (test x) (list_any test xs) h)
 
-pub member_any : (test : ℕ → Bool) (xs : List ℕ) (p : ℕ) → has xs p ≡ true → test p ≡ true → any test xs ≡ true
+pub member_any : (test : ℕ → Bool) (xs : List ℕ) (p : ℕ) → has xs p ≡ true → test p ≡ true → list_any test xs ≡ true
 member_any test [] p h e = absurd (false≢true h)
 member_any test (x ∷ xs) p h e =
     ⊎_elim
-    (λ q. or_left (test x) (any test xs) (subst (λ z. test z ≡ true) q e))
-    (λ q. or_right (test x) (any test xs) (member_any test xs p q e))
+    (λ q. or_left (test x) (list_any test xs) (subst (λ z. test z ≡ true) q e))
+    (λ q. or_right (test x) (list_any test xs) (member_any test xs p q e))
     (has_cases x xs p h)
 
-pub every_member : (test : ℕ → Bool) (xs : List ℕ) (p : ℕ) → every test xs ≡ true → has xs p ≡ true → test p ≡ true
+pub every_member : (test : ℕ → Bool) (xs : List ℕ) (p : ℕ) → list_all test xs ≡ true → has xs p ≡ true → test p ≡ true
 every_member test [] p h e = absurd (false≢true e)
 every_member test (x ∷ xs) p h e =
     ⊎_elim
-    (λ q. subst (λ z. test z ≡ true) (sym q) (and_parts (test x) (every test xs) h).0)
-    (λ q. every_member test xs p (and_parts (test x) (every test xs) h).1 q)
+    (λ q. subst (λ z. test z ≡ true) (sym q) (and_parts (test x) (list_all test xs) h).0)
+    (λ q. every_member test xs p (and_parts (test x) (list_all test xs) h).1 q)
     (has_cases x xs p e)
 
-pub members_every : (test : ℕ → Bool) (xs : List ℕ) → ((p : ℕ) → has xs p ≡ true → test p ≡ true) → every test xs ≡ true
+pub members_every : (test : ℕ → Bool) (xs : List ℕ) → ((p : ℕ) → has xs p ≡ true → test p ≡ true) → list_all test xs ≡ true
 members_every test [] h = refl
 members_every test (x ∷ xs) h =
-    and_from (test x) (every test xs) (h x (has_head x xs)) (members_every test xs (λ p e. h p (has_tail x xs p e)))
+    and_from (test x) (list_all test xs) (h x (has_head x xs)) (members_every test xs (λ p e. h p (has_tail x xs p e)))
 
-pub not_every_member : (test : ℕ → Bool) (xs : List ℕ) → every test xs ≡ false → Member xs (λ p. test p ≡ false)
+pub not_every_member : (test : ℕ → Bool) (xs : List ℕ) → list_all test xs ≡ false → Member xs (λ p. test p ≡ false)
 not_every_member test [] h = absurd (true≢false h)
 not_every_member test (x ∷ xs) h =
-    ⊎_elim (λ e. (x, has_head x xs, e)) (λ e. member_tail x xs (λ p. test p ≡ false) (not_every_member test xs e)) (and_cases (test x) (every test xs) h)
+    ⊎_elim (λ e. (x, has_head x xs, e)) (λ e. member_tail x xs (λ p. test p ≡ false) (not_every_member test xs e)) (and_cases (test x) (list_all test xs) h)
 
 pub all_member : (A : ℕ → Type 0) (xs : List ℕ) (p : ℕ) → AllByRecursion A xs → has xs p ≡ true → A p
 all_member A [] p a h = absurd (false≢true h)
@@ -97,26 +98,26 @@ crosses_by side ps p q hp hq d =
   where
     from : (x y : ℕ) → has ps x ≡ true → has ps y ≡ true → side x ≡ true → side y ≡ false → crosses side ps ≡ true
     from x y hx hy a b =
-        and_from (any side ps) (any (λ z. not (side z)) ps) (member_any side ps x hx a) (member_any (λ z. not (side z)) ps y hy (not_from_false (side y) b))
+        and_from (list_any side ps) (list_any (λ z. not (side z)) ps) (member_any side ps x hx a) (member_any (λ z. not (side z)) ps y hy (not_from_false (side y) b))
 
 pub crossing_pins : (side : ℕ → Bool) (ps : List ℕ) → crosses side ps ≡ true → Member ps (λ p. side p ≡ true) × Member ps (λ q. side q ≡ false)
 crossing_pins side ps h =
-    let e = and_parts (any side ps) (any (λ z. not (side z)) ps) h in
+    let e = and_parts (list_any side ps) (list_any (λ z. not (side z)) ps) h in
     let b : Member ps (λ q. not (side q) ≡ true) = any_member (λ z. not (side z)) ps e.1 in
     (any_member side ps e.0, (b.0, b.1, not-true (side b.0) b.2))
 
-pub any_like : (c d : ℕ → Bool) (ps : List ℕ) → ((p : ℕ) → has ps p ≡ true → c p ≡ d p) → any c ps ≡ any d ps
+pub any_like : (c d : ℕ → Bool) (ps : List ℕ) → ((p : ℕ) → has ps p ≡ true → c p ≡ d p) → list_any c ps ≡ list_any d ps
 any_like c d [] h = refl
 any_like c d (p ∷ ps) h = ap₂ (λ a b. a || b) (h p (has_head p ps)) (any_like c d ps (λ q e. h q (has_tail p ps q e)))
 
-pub every_like : (c d : ℕ → Bool) (ps : List ℕ) → ((p : ℕ) → has ps p ≡ true → c p ≡ d p) → every c ps ≡ every d ps
+pub every_like : (c d : ℕ → Bool) (ps : List ℕ) → ((p : ℕ) → has ps p ≡ true → c p ≡ d p) → list_all c ps ≡ list_all d ps
 every_like c d [] h = refl
 every_like c d (p ∷ ps) h = ap₂ (λ a b. a && b) (h p (has_head p ps)) (every_like c d ps (λ q e. h q (has_tail p ps q e)))
 
 pub crosses_like : (c d : ℕ → Bool) (ps : List ℕ) → ((p : ℕ) → has ps p ≡ true → c p ≡ d p) → crosses c ps ≡ crosses d ps
 crosses_like c d ps h = ap₂ (λ a b. a && b) (any_like c d ps h) (any_like (λ p. not (c p)) (λ p. not (d p)) ps (λ p e. ap not (h p e)))
 
-any_map : (test : ℕ → Bool) (f : ℕ → ℕ) (ps : List ℕ) → any test (map f ps) ≡ any (λ p. test (f p)) ps
+any_map : (test : ℕ → Bool) (f : ℕ → ℕ) (ps : List ℕ) → list_any test (map f ps) ≡ list_any (λ p. test (f p)) ps
 any_map test f [] = refl
 any_map test f (p ∷ ps) = ap (λ z. test (f p) || z) (any_map test f ps)
 
@@ -125,12 +126,12 @@ crosses_map side f ps = ap₂ (λ a b. a && b) (any_map side f ps) (any_map (λ 
 
 -- the three parts of a pull: a pin at v, one in the set, none elsewhere
 pub pulls_parts : (v : ℕ) (among : ℕ → Bool) (ps : List ℕ) → pulls v among ps ≡ true
-    → (has ps v ≡ true) × (any among ps ≡ true) × (every (λ p. eqb p v || among p) ps ≡ true)
+    → (has ps v ≡ true) × (list_any among ps ≡ true) × (list_all (λ p. eqb p v || among p) ps ≡ true)
 pulls_parts v among ps h =
-    let a = and_parts (has ps v) (any among ps && every (λ p. eqb p v || among p) ps) h in
-    let b = and_parts (any among ps) (every (λ p. eqb p v || among p) ps) a.1 in
+    let a = and_parts (has ps v) (list_any among ps && list_all (λ p. eqb p v || among p) ps) h in
+    let b = and_parts (list_any among ps) (list_all (λ p. eqb p v || among p) ps) a.1 in
     (a.0, b.0, b.1)
 
-pub pulls_from : (v : ℕ) (among : ℕ → Bool) (ps : List ℕ) → has ps v ≡ true → any among ps ≡ true → every (λ p. eqb p v || among p) ps ≡ true → pulls v among ps ≡ true
+pub pulls_from : (v : ℕ) (among : ℕ → Bool) (ps : List ℕ) → has ps v ≡ true → list_any among ps ≡ true → list_all (λ p. eqb p v || among p) ps ≡ true → pulls v among ps ≡ true
 pulls_from v among ps a b c =
-    and_from (has ps v) (any among ps && every (λ p. eqb p v || among p) ps) a (and_from (any among ps) (every (λ p. eqb p v || among p) ps) b c)
+    and_from (has ps v) (list_any among ps && list_all (λ p. eqb p v || among p) ps) a (and_from (list_any among ps) (list_all (λ p. eqb p v || among p) ps) b c)

@@ -6,7 +6,8 @@ use Rattle.std.proofs.Common.{◌≡◌, ℕ, Bool, true, false, ◌&&◌, ◌||
 use Rattle.std.proofs.lemmas.Bool.{false≢true, both_ways, eqb-true, eqb-false, cases_Bool, and_parts, and_from, or_cases, or_parts, or_right}
 use Rattle.price.specs.Kind.{Kind, NotGreater, Laws}
 use Rattle.netlist.specs.Nets.{Net}
-use Rattle.cut.specs.Cuts.{every, has, crosses, pulls, total, pull}
+use Rattle.cut.specs.Cuts.{has, crosses, pulls, total, pull}
+use Rattle.std.specs.List.{list_all}
 use Rattle.cut.specs.Orders.{TakenAsListed}
 use Rattle.cut.proofs.Members.{has_head, has_tail, has_cases, has_one, Member, any_member, member_any, every_member, members_every, not_every_member, same_side, crosses_by, pulls_parts, pulls_from}
 use Rattle.cut.proofs.Totals.{le_refl, le_trans, join_le, total_le, total_cover, total_apart, total_none}
@@ -18,7 +19,7 @@ and_also v among p = eqb p v || among p
 
 -- a net with these pins crosses and has all of them in the set
 abbrev pub crosses_within : (ℕ → Bool) → (ℕ → Bool) → List ℕ → Bool
-crosses_within side among ps = crosses side ps && every among ps
+crosses_within side among ps = crosses side ps && list_all among ps
 
 -- the crossing nets that come with v
 abbrev comes_with : (ℕ → Bool) → ℕ → (ℕ → Bool) → List ℕ → Bool
@@ -43,13 +44,13 @@ pulls_base_or_comes side x v among base new outside d ps h =
     let o = or_parts (eqb q.0 v) (base q.0) q.2 in
     let i : among q.0 ≡ true = in_the_set v q.0 among (eqb-false q.0 v o.0) (every_member (and_also v among) ps q.0 a.2 q.1) in
     let c : crosses side ps ≡ true = crosses_by side ps q.0 v q.1 a.0 (λ z. d (sym (outside q.0 i o.1) ∙ z)) in
-    inr (and_from (crosses_within side (and_also v among) ps) (has ps v) (and_from (crosses side ps) (every (and_also v among) ps) c a.2) a.0))
-    (cases_Bool (every (and_also v base) ps))
+    inr (and_from (crosses_within side (and_also v among) ps) (has ps v) (and_from (crosses side ps) (list_all (and_also v among) ps) c a.2) a.0))
+    (cases_Bool (list_all (and_also v base) ps))
 
 within_more : (side : ℕ → Bool) (v : ℕ) (among : ℕ → Bool) (ps : List ℕ) → crosses_within side among ps ≡ true → crosses_within side (and_also v among) ps ≡ true
 within_more side v among ps h =
-    let a = and_parts (crosses side ps) (every among ps) h in
-    and_from (crosses side ps) (every (and_also v among) ps) a.0
+    let a = and_parts (crosses side ps) (list_all among ps) h in
+    and_from (crosses side ps) (list_all (and_also v among) ps) a.0
     (members_every (and_also v among) ps (λ p e. or_right (eqb p v) (among p) (every_member among ps p a.1 e)))
 
 comes_with_new : (side : ℕ → Bool) (v : ℕ) (among : ℕ → Bool) → among v ≡ false → (ps : List ℕ) → comes_with side v among ps ≡ true
@@ -58,7 +59,7 @@ comes_with_new side v among new ps h =
     let a = and_parts (crosses_within side (and_also v among) ps) (has ps v) h in (
       a.0,
       ⊎_elim
-          (λ e. absurd (both_ways (among v) new (every_member among ps v (and_parts (crosses side ps) (every among ps) e).1 a.1)))
+          (λ e. absurd (both_ways (among v) new (every_member among ps v (and_parts (crosses side ps) (list_all among ps) e).1 a.1)))
           (λ e. e)
           (cases_Bool (crosses_within side among ps)),
     )

@@ -2,7 +2,7 @@
 use Rattle.std.proofs.Common.{◌≡◌, ℕ, suc, ◌+◌, ◌-◌, ◌*◌, ◌/◌, ◌%◌, ◌^◌, ◌<◌, ◌≤◌, Bool, true, false, cond, not, ◌&&◌, ◌||◌, eqb, ltb, leb, Decides, sym, refl, ap, ◌∙◌, ap₂, ⊎_elim, arith, lit<, pow_mono}
 use lib.Bits.{bit_and, bit_or, and_mask, and_le_l}
 use lib.Count.{count_leading_zeros, leading_top}
-use Rattle.std.proofs.lemmas.Bool.{eq-eqb, ne_eqb, eqb-true, eqb-false, cases_lt, cases_order, lt-ltb, le-ltb, le-leb, lt-leb, and_left, and_from, and_parts, false≢true, both_ways, not-true, not_from_false}
+use Rattle.std.proofs.lemmas.Bool.{eq-eqb, ne_eqb, eqb-true, eqb-false, cases_lt, cases_order, lt-ltb, le-ltb, le-leb, lt-leb, and_left, and_from, and_parts, both_ways, not-true, not_from_false}
 use Rattle.std.proofs.lemmas.Bool.Decides.{nat_tests}
 use Rattle.moduleset.specs.Words.{digit, has, opened_at}
 use Rattle.moduleset.proofs.Digits.{digit_or, digit_and, digit_zero, digit_above, digit_top, digit_power, digit_power_other, digit_complement, digit_shifted, digit_all, digit_doubled, digit_doubled_low, digit_below, same_digits}
@@ -122,16 +122,6 @@ leading_lowest w p h =
       before = λ k l. has_digit w k (omega arith) ∙ digit_above w (63 - k) (omega (arith, t.3, pow_mono {i = suc t.0} {j = 63 - k} (omega (arith, t.1))));
     }
 
--- no module is in both
-inside_one : (a b : Bool) → (a && not b) ≡ false → a ≡ true → b ≡ true
-inside_one true true e h = refl
-inside_one true false e h = sym e
-inside_one false b e h = absurd (false≢true h)
-
-one_inside : (a b : Bool) → (a ≡ true → b ≡ true) → (a && not b) ≡ false
-one_inside true b f = ap not (f refl)
-one_inside false b f = refl
-
 -- a word is 0 exactly when it has no module
 pub zero_has : (w : ℕ) → eqb w 0 ≡ true → (k : ℕ) → has w k ≡ false
 zero_has w e k = ap (λ (x : ℕ). has x k) (eqb-true w 0 e) ∙ has_zero k
@@ -139,12 +129,7 @@ zero_has w e k = ap (λ (x : ℕ). has x k) (eqb-true w 0 e) ∙ has_zero k
 pub has_none : (w : ℕ) → w < 2 ^ 64 → ((k : ℕ) → has w k ≡ false) → w ≡ 0
 has_none w p f = same_sets w 0 p (lit< tt) (λ k h. f k ∙ sym (has_zero k))
 
-pub inside_zero : (a b : ℕ) → a < 2 ^ 64 → b < 2 ^ 64 → Decides (eqb (bit_and a ((2 ^ 64 - 1) - b)) 0) ((k : ℕ) → has a k ≡ true → has b k ≡ true)
-inside_zero a b p q = (
-  (λ e k. inside_one (has a k) (has b k) (sym (has_minus a b k q) ∙ zero_has _ e k)),
-  (λ f. eq-eqb _ 0 (has_none _ (omega (arith, and_le_l a ((2 ^ 64 - 1) - b))) (λ k. has_minus a b k q ∙ one_inside (has a k) (has b k) (f k)))),
-)
-
+-- whether some module is in both
 pub meets_some : (a b : ℕ) → a < 2 ^ 64 → b < 2 ^ 64 → Decides (not (eqb (bit_and a b) 0)) ((k : ℕ) × (has a k ≡ true) × (has b k ≡ true))
 meets_some a b p q = (some, (λ r. not_from_false _ (ne_eqb _ 0 (λ e. both_ways (has (bit_and a b) r.0) (zero_has _ (eq-eqb _ 0 e) r.0) (has_and a b r.0 ∙ and_from (has a r.0) (has b r.0) r.1 r.2)))))
   where

@@ -107,13 +107,6 @@ impl ModuleSet {
         before.union(after.one_lower())
     }
 
-    /// Whether every module is in the other set too.
-    pub fn is_inside(self, other: ModuleSet) -> bool
-        ensures { Decides result ((k : ℕ) → is_in self.word k ≡ true → is_in other.word k ≡ true) }
-    {
-        self.word & !other.word == 0
-    }
-
     /// Whether some module is in both sets.
     pub fn meets(self, other: ModuleSet) -> bool
         ensures { Decides result ((k : ℕ) × (is_in self.word k ≡ true) × (is_in other.word k ≡ true)) }
@@ -146,8 +139,8 @@ impl ModuleSet {
         }
     }
 
-    // By leading zeros, a rule of the project: so `k` modules are taken out, and no iterator's `nth` serves.
     /// Module number `k` in rising order, counted from 0.
+    // By leading zeros, as decided: so `k` modules are taken out, and no iterator's `nth` serves.
     pub fn kth(self, k: usize) -> Option<u8>
         ensures { result ≡ slice_get (members self.word) k }
     {

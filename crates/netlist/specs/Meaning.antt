@@ -14,7 +14,7 @@ pub record Meaning (P : Type 0) : Type 0 where
 abbrev pub homes : {P : Type 0} → Meaning P → ℕ
 homes m = length m.places
 
--- the netlist's modules are the places
+-- how many modules the netlist has: one for each group
 abbrev pub modules : {P : Type 0} → Meaning P → ℕ
 modules m = groups m.places
 

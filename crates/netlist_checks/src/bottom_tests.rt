@@ -164,79 +164,30 @@ fn nets_with_too_few_pins(rt: HostRuntime) {
     );
 }
 
+// A net of two pins and one of three, over three modules.
+fn pins_refused(rt: &impl Abort, pins: &[u8], number: u8, net: usize, position: usize) {
+    let at = Place::Pin { net, position };
+    tables_refused(rt, 3, &[0, 2, 5], pins, &[ONE, ONE], number, at);
+}
+
 #[test]
-fn pins_that_are_not_there_or_repeat(rt: HostRuntime) {
-    let two = [ONE, ONE];
-    tables_refused(
-        &rt,
-        3,
-        &[0, 2, 5],
-        &[0, 1, 0, 1, 3],
-        &two,
-        7,
-        Place::Pin {
-            net: 1,
-            position: 2,
-        },
-    );
-    tables_refused(
-        &rt,
-        3,
-        &[0, 2, 5],
-        &[0, 1, 2, 1, 2],
-        &two,
-        8,
-        Place::Pin {
-            net: 1,
-            position: 2,
-        },
-    );
-    tables_refused(
-        &rt,
-        3,
-        &[0, 2, 5],
-        &[0, 0, 2, 1, 9],
-        &two,
-        8,
-        Place::Pin {
-            net: 0,
-            position: 1,
-        },
-    );
-    tables_refused(
-        &rt,
-        3,
-        &[0, 2, 5],
-        &[7, 7, 2, 1, 2],
-        &two,
-        7,
-        Place::Pin {
-            net: 0,
-            position: 0,
-        },
-    );
-    rows_refused(
-        &rt,
-        3,
-        &[0xC000_0000_0000_0000, 0xA800_0000_0000_0000],
-        &two,
-        7,
-        Place::Pin {
-            net: 1,
-            position: 2,
-        },
-    );
-    rows_refused(
-        &rt,
-        3,
-        &[0x0000_0000_0000_0003, 0xA000_0000_0000_0000],
-        &two,
-        7,
-        Place::Pin {
-            net: 0,
-            position: 0,
-        },
-    );
+fn pins_of_tables_that_are_not_there_or_repeat(rt: HostRuntime) {
+    pins_refused(&rt, &[0, 1, 0, 1, 3], 7, 1, 2);
+    pins_refused(&rt, &[0, 1, 2, 1, 2], 8, 1, 2);
+    pins_refused(&rt, &[0, 0, 2, 1, 9], 8, 0, 1);
+    pins_refused(&rt, &[7, 7, 2, 1, 2], 7, 0, 0);
+}
+
+// The same of rows: these can't repeat a pin.
+fn bits_refused(rt: &impl Abort, rows: &[u64], net: usize, position: usize) {
+    let at = Place::Pin { net, position };
+    rows_refused(rt, 3, rows, &[ONE, ONE], 7, at);
+}
+
+#[test]
+fn pins_of_rows_that_are_not_there(rt: HostRuntime) {
+    bits_refused(&rt, &[0xC000_0000_0000_0000, 0xA800_0000_0000_0000], 1, 2);
+    bits_refused(&rt, &[0x0000_0000_0000_0003, 0xA000_0000_0000_0000], 0, 0);
 }
 
 #[test]

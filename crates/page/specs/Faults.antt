@@ -11,7 +11,7 @@ use Rattle.page.specs.Layout.{kind_field, modules_field, nets_field, pin_count, 
 abbrev pub bytes_to : ℕ → ℕ
 bytes_to end = (end + 7) / 8
 
--- tables with room for so many starts, pins and prices, where a page has so many nets and pins
+-- a page with so many nets and so many pins in all, unpacked into tables with so many starts, pins and prices: the first table that is too short
 abbrev pub room_fault : ℕ → ℕ → ℕ → ℕ → ℕ → Option Fault
 room_fault nets count starts pins prices =
     or_else (fault_if (nat_lt starts (nets + 1)) (TooShort 1))

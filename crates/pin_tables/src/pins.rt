@@ -18,7 +18,7 @@ pub(crate) fn check_pins(modules: usize, starts: &[u32], pins: &[u8]) -> Result<
 }
 
 /// Refuses the first pin of one net that names no module or repeats an earlier one.
-// Nested loops left by a label, a rule of the project: so no early return and no `contains`.
+// Nested loops left by a label, as decided: so no early return and no `contains`.
 fn check_net(modules: usize, net: usize, pins: &[u8]) -> Result<(), Fault>
     ensures { result ≡ checked (net_fault modules net pins.now) }
 {

@@ -1,6 +1,6 @@
 -- Calls on a plan, from what was checked and what was left.
-use Rattle.std.proofs.Common.{◌≡◌, ℕ, zero, suc, ◌<◌, ◌≤◌, List, [], ◌∷◌, ◌++◌, length, Some, None, Ok, Err, Option, Result, sym, refl, ap, ◌∙◌, subst, ap₂, arith}
-use Rattle.std.proofs.lemmas.List.{length-append, get_or_append_left, get_or_at}
+use Rattle.std.proofs.Common.{◌≡◌, ℕ, ◌<◌, List, [], ◌∷◌, ◌++◌, reverse, length, Some, None, Ok, Err, Option, Result, sym, refl, ap, ◌∙◌, subst, ap₂, arith}
+use Rattle.std.proofs.lemmas.List.{reverse-append}
 use Rattle.std.proofs.lemmas.Bool.Decides.{nat_tests}
 use Rattle.std.specs.Option.{ok_or}
 use Rattle.refusal.specs.Checks.{or_else}
@@ -17,7 +17,7 @@ use Rattle.standing.specs.declared.change.Change.TheVariants.{Strapped, Muted}
 use Rattle.plan.specs.declared.calls.Answer.{Answer}
 use Rattle.plan.specs.declared.calls.Answer.TheVariants.{Done, Refused, Found}
 use Rattle.plan.specs.declared.plans.Plan.{Plan}
-use Rattle.standing.specs.Standing.{applied, change_fault, latest_first}
+use Rattle.standing.specs.Standing.{applied, change_fault}
 use Rattle.plan.specs.Reckoning.{Call, making, strap, mute, take_back, split, look, full_fault, empty_fault, refusal, without_latest, changed, left_by, answered, found, shown_then, shown_by, told, accepted_answer, answer_by}
 use Rattle.plan.specs.Runs.{Leaves, answer_to}
 use Rattle.plan.specs.Plans.{standing_changes, plan_meaning}
@@ -25,30 +25,19 @@ use Rattle.plan.specs.PlanCalls.{of_change, refusal_on, CallOn, cells_left}
 use Rattle.plan.proofs.Changes.{homes_applied, second_passed}
 use Rattle.plan.proofs.Promised.{keeps_promise, look_free}
 
--- the table of changes
-pub length_latest : (n : ℕ) (table : List Change) → length (latest_first n table) ≡ n
-length_latest zero table = refl
-length_latest (suc n) table = ap suc (length_latest n table)
-
-latest_appended : (n : ℕ) (xs ys : List Change) → n ≤ length xs → latest_first n (xs ++ ys) ≡ latest_first n xs
-latest_appended zero xs ys h = refl
-latest_appended (suc n) xs ys h = ap₂ (λ c cs. c ∷ cs) (get_or_append_left xs ys (Strapped 0 0) n (omega arith)) (latest_appended n xs ys (omega arith))
-
 -- one change more, and one fewer
-pub latest_more : (xs : List Change) (c : Change) → latest_first (length (xs ++ c ∷ [])) (xs ++ c ∷ []) ≡ c ∷ latest_first (length xs) xs
-latest_more xs c =
-    let long : length (xs ++ c ∷ []) ≡ suc (length xs) = length-append xs (c ∷ []) ∙ omega arith in
-    ap (λ n. latest_first n (xs ++ c ∷ [])) long
-    ∙ ap₂ (λ d ds. d ∷ ds) (get_or_at xs c [] (Strapped 0 0) (length xs) refl) (latest_appended (length xs) xs (c ∷ []) (omega arith))
+pub latest_more : (xs : List Change) (c : Change) → reverse (xs ++ c ∷ []) ≡ c ∷ reverse xs
+latest_more xs c = reverse-append xs (c ∷ [])
 
-pub latest_fewer : (old new : List Change) (c : Change) → old ≡ new ++ c ∷ [] → latest_first (length new) new ≡ without_latest (latest_first (length old) old)
-latest_fewer old new c e = sym (ap (λ xs. without_latest (latest_first (length xs) xs)) e ∙ ap without_latest (latest_more new c))
+pub latest_fewer : (old new : List Change) (c : Change) → old ≡ new ++ c ∷ [] → reverse new ≡ without_latest (reverse old)
+latest_fewer old new c e = sym (ap (λ xs. without_latest (reverse xs)) e ∙ ap without_latest (latest_more new c))
 
-pub none_to_take_back : (xs : List Change) → length xs ≡ 0 → empty_fault (latest_first (length xs) xs) ≡ Some NothingToTakeBack
-none_to_take_back xs e = ap (λ n. empty_fault (latest_first n xs)) e
+pub none_to_take_back : (xs : List Change) → length xs ≡ 0 → empty_fault (reverse xs) ≡ Some NothingToTakeBack
+none_to_take_back [] e = refl
+none_to_take_back (c ∷ cs) e = absurd (omega arith)
 
-pub some_to_take_back : (old new : List Change) (c : Change) → old ≡ new ++ c ∷ [] → empty_fault (latest_first (length old) old) ≡ None
-some_to_take_back old new c e = ap (λ xs. empty_fault (latest_first (length xs) xs)) e ∙ ap empty_fault (latest_more new c)
+pub some_to_take_back : (old new : List Change) (c : Change) → old ≡ new ++ c ∷ [] → empty_fault (reverse old) ≡ None
+some_to_take_back old new c e = ap (λ xs. empty_fault (reverse xs)) e ∙ ap empty_fault (latest_more new c)
 
 done_refused : {P : Type 0} (fault : Fault) → ◌≡◌ {A = Answer P} Done (Refused fault) → ⊥
 done_refused fault e = let z : ◌≡◌ {A = ℕ} 0 1 = cc in omega arith

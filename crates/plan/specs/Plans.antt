@@ -1,14 +1,14 @@
 -- What a plan is: the netlist below it, the changes that stand and the split that is shown.
-use Rattle.std.specs.Prelude.{List}
-use Rattle.arrayvec.specs.ArrayVec.{array_vec_len}
+use Rattle.std.specs.Prelude.{List, reverse}
 use Rattle.netlist.specs.Meaning.{Meaning, Sound}
 use Rattle.standing.specs.declared.change.Change.{Change}
 use Rattle.plan.specs.declared.plans.Plan.{Plan}
-use Rattle.standing.specs.Standing.{applied, latest_first}
+use Rattle.standing.specs.Standing.{applied}
 use Rattle.standing.specs.StandingSound.{applied_sound}
 
+-- the latest first
 abbrev pub standing_changes : {N P : Type 0} → Plan N P → List Change
-standing_changes plan = latest_first (array_vec_len plan.changes) plan.changes.items
+standing_changes plan = reverse plan.changes.items
 
 -- the netlist below with the standing changes applied
 abbrev pub plan_meaning : {N P : Type 0} → (N → Meaning P) → Plan N P → Meaning P

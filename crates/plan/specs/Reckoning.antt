@@ -2,14 +2,15 @@
 use Rattle.std.specs.Prelude.{ℕ, cond, List, [], ◌∷◌, length, Some, None, vec_len, Option, nat_lt}
 use Rattle.refusal.specs.Checks.{or_else}
 use Rattle.refusal.specs.declared.Fault.{Fault}
-use Rattle.refusal.specs.declared.Fault.TheVariants.{PlanFull, NothingToTakeBack, TooShort, TooFewGroups}
+use Rattle.refusal.specs.declared.Fault.TheVariants.{PlanFull, NothingToTakeBack}
 use Rattle.price.specs.Kind.{Kind}
-use Rattle.netlist.specs.Meaning.{Meaning, homes, modules}
+use Rattle.netlist.specs.Meaning.{Meaning, homes}
 use Rattle.cut.specs.Lawful as lawful
 use Rattle.cut.specs.Rounds.{split_of}
 use Rattle.cut.specs.SidesWord.{sides_word}
 use Rattle.cut.specs.declared.found.FoundSplit.{FoundSplit}
 use Rattle.layers.specs.Refusals.{strap_fault, mute_fault}
+use Rattle.partition.specs.Splits.{split_fault}
 use Rattle.standing.specs.declared.change.Change.{Change}
 use Rattle.standing.specs.declared.change.Change.TheVariants.{Strapped, Muted}
 use Rattle.plan.specs.declared.calls.Asked.{Asked}
@@ -38,7 +39,7 @@ abbrev pub making : Change → Call
 making (Strapped a b) = strap a b
 making (Muted n) = mute n
 
--- no more than 64 changes stand
+-- refused where 64 changes stand
 abbrev pub full_fault : List Change → Option Fault
 full_fault cs = cond (nat_lt (length cs) 64) None (Some PlanFull)
 
@@ -46,16 +47,12 @@ abbrev pub empty_fault : List Change → Option Fault
 empty_fault [] = Some NothingToTakeBack
 empty_fault (c ∷ cs) = None
 
--- a cell for each home module, and two groups
-abbrev pub split_fault : {P : Type 0} → ℕ → Meaning P → Option Fault
-split_fault cells m = cond (nat_lt cells (homes m)) (Some (TooShort 1)) (cond (nat_lt (modules m) 2) (Some TooFewGroups) None)
-
 -- why a call is refused where these changes stand over m
 unfoldable pub refusal : {P : Type 0} → Meaning P → List Change → Call → Option Fault
 refusal m cs (strap a b) = or_else (strap_fault a b (applied m cs)) (full_fault cs)
 refusal m cs (mute n) = or_else (mute_fault n (applied m cs)) (full_fault cs)
 refusal m cs take_back = empty_fault cs
-refusal m cs (split cells) = split_fault cells (applied m cs)
+refusal m cs (split cells) = split_fault (applied m cs) cells
 refusal m cs look = None
 
 abbrev pub without_latest : List Change → List Change

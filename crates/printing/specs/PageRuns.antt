@@ -1,4 +1,4 @@
--- What a page and a script are answered: the program, from the bytes that it reads to those that it writes.
+-- What a page and a script are answered in tables, cells and a buffer that are handed in.
 use Rattle.std.specs.Prelude.{◌≡◌, ℕ, ◌<◌, ◌≤◌, List, length, Some, None, Option, Result}
 use Rattle.refusal.specs.declared.Fault.{Fault}
 use Rattle.price.specs.Kind.{Kind}

@@ -7,7 +7,7 @@ use Rattle.price.specs.TimersFirst.{timers_first}
 use Rattle.price.specs.Widest.{widest}
 use Rattle.page.specs.Layout.{kind_field}
 use Rattle.page.specs.Known.{known_fault}
-use Rattle.page.specs.Faults.{unpack_fault}
+use Rattle.page.specs.Faults.{page_fault}
 use Rattle.loading.specs.Loading.{page_meaning}
 use Rattle.lines.specs.Lines.{page_line, script_line}
 use Rattle.session.specs.ScriptRuns.{Session}
@@ -19,12 +19,11 @@ pub record PageSession {P : Type 0} (k : Kind P) (page script bytes : List ℕ) 
   pub enough : length cells ≡ 64
   pub session : Session k (page_meaning k page) script bytes cells cells_left
 
--- Of a page in a price kind: its refusal alone, or that the script is longer than 65,536 bytes alone, or what the script's lines are told.
--- The page is unpacked into 1,025 starts, 65,536 pins and 1,024 prices.
+-- Of a page in a price kind: its first fault alone, or else that the script is longer than 65,536 bytes alone, or else what the script's lines are told.
 pub record PrintedIn {P : Type 0} (k : Kind P) (page script bytes : List ℕ) : Type 0 where
-  pub refused : (fault : Fault) → unpack_fault page k.number 1025 65536 1024 ≡ Some fault → bytes ≡ page_line fault
-  pub too_long : unpack_fault page k.number 1025 65536 1024 ≡ None → 65536 < length script → bytes ≡ script_line
-  pub run : unpack_fault page k.number 1025 65536 1024 ≡ None → length script ≤ 65536 → PageSession k page script bytes
+  pub refused : (fault : Fault) → page_fault page k.number ≡ Some fault → bytes ≡ page_line fault
+  pub too_long : page_fault page k.number ≡ None → 65536 < length script → bytes ≡ script_line
+  pub run : page_fault page k.number ≡ None → length script ≤ 65536 → PageSession k page script bytes
 
 -- In the price kind that the page's first four bits name; a page that names none is refused alone.
 pub record Printed (page script bytes : List ℕ) : Type 0 where

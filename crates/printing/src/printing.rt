@@ -24,6 +24,7 @@ pub fn print_page<P: Price>(heap: Global, page: &[u8], script: &[u8]) -> Result<
 
 impl<P: Price> Tables<P> {
     /// Answers a page and a script into a buffer that suffices, and answers how many bytes that took.
+    #[tactic(auto, using(std::proofs::lemmas::Grind::common_steps, crate::proofs::PagesFit::pages_fit))]
     fn answer_into(self, page: &[u8], script: &[u8], out: &mut [u8]) -> usize
         requires line { 37 ≤ length out.old }
         requires lines { length script.now ≤ 65536 → 37 * length (lines_of script.now) ≤ length out.old }

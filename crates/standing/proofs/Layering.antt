@@ -1,5 +1,6 @@
 -- Strapping and muting layers does to their meaning what a change does, also where the layers refuse it.
-use Rattle.std.proofs.Common.{◌≡◌, ℕ, zero, suc, ◌+◌, ◌<◌, Bool, true, false, cond, ◌&&◌, eqb, ltb, List, [], ◌∷◌, length, get_or, set, Some, None, Ok, Err, Result, sym, refl, ap, ◌∙◌, add-one, arith}
+use Rattle.std.proofs.Common.{◌≡◌, ℕ, zero, suc, ◌+◌, ◌<◌, Bool, true, false, cond, ◌&&◌, eqb, ltb, List, [], ◌∷◌, reverse, take, length, get_or, set, Some, None, Ok, Err, Result, IfErr, sym, refl, ap, ◌∙◌, arith}
+use Rattle.std.proofs.lemmas.List.{take_more, reverse-append}
 use Rattle.std.proofs.lemmas.Bool.{lt-ltb, and_from, cond-true}
 use Rattle.std.proofs.lemmas.Bool.Decides.{nat_tests}
 use Rattle.refusal.specs.declared.Fault.{Fault}
@@ -12,7 +13,7 @@ use Rattle.layers.specs.Refusals.{strap_fault, mute_fault, Checked}
 use Rattle.layers.specs.Changed.{Straps, Mutes}
 use Rattle.standing.specs.declared.change.Change.{Change}
 use Rattle.standing.specs.declared.change.Change.TheVariants.{Strapped, Muted}
-use Rattle.standing.specs.Standing.{apply, applied, latest_first}
+use Rattle.standing.specs.Standing.{apply, applied}
 
 pub no_none : {X : Type 0} (x : X) → Some x ≡ None → ⊥
 no_none x e = let z : ◌≡◌ {A = ℕ} 0 1 = cc in omega arith
@@ -90,7 +91,19 @@ module _ {P : Type 0} where
         by_guard true = refl
         by_guard false = refl
 
--- one change more of a table is applied
-pub next_applied : {P : Type 0} (m n : Meaning P) (table : List Change) (i : ℕ) (c : Change) → n ≡ applied m (latest_first i table) → c ≡ get_or table i (Strapped 0 0)
-    → apply c n ≡ applied m (latest_first (i + 1) table)
-next_applied m n table i c e q = rw add-one (ap (apply c) e ∙ ap (λ z. apply z (applied m (latest_first i table))) q)
+-- refused, both layers are what they were, and so is what stands on them
+pub straps_refused : {P L T : Type 0} (means : L → Meaning P) (a b : ℕ) (old new : L) (r : Result (Unit {0}) Fault) → Straps means a b old new r
+    → (above : L → T) (kept : T) → above old ≡ kept → IfErr r (λ fault. above new ≡ kept)
+straps_refused means a b old new (Ok tt) h above kept e = tt
+straps_refused means a b old new (Err fault) h above kept e = ap above h.1 ∙ e
+
+pub mutes_refused : {P L : Type 0} (means : L → Meaning P) (n : ℕ) (old new : L) (r : Result (Unit {0}) Fault) → Mutes means n old new r → IfErr r (λ fault. new ≡ old)
+mutes_refused means n old new (Ok tt) h = tt
+mutes_refused means n old new (Err fault) h = h.1
+
+-- one change more of a list is applied
+pub next_applied : {P : Type 0} (m n : Meaning P) (changes : List Change) (i : ℕ) → i < length changes → n ≡ applied m (reverse (take i changes))
+    → apply (get_or changes i (Strapped 0 0)) n ≡ applied m (reverse (take (i + 1) changes))
+next_applied m n changes i h e =
+    let c = get_or changes i (Strapped 0 0) in
+    ap (apply c) e ∙ sym (ap (λ cs. applied m (reverse cs)) (take_more changes i (Strapped 0 0) h) ∙ ap (applied m) (reverse-append (take i changes) (c ∷ [])))

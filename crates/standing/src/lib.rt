@@ -1,9 +1,9 @@
 //! A netlist with changes standing over it.
 #![tactic(auto)]
 
-ghost use Rattle.std.specs.Prelude.{◌≡◌, length};
+ghost use Rattle.std.specs.Prelude.{◌≡◌, reverse, IfErr};
 ghost use Rattle.layers.specs.Refusals.{Checked};
-ghost use Rattle.standing.specs.Standing.{apply, applied, change_fault, latest_first};
+ghost use Rattle.standing.specs.Standing.{apply, applied, change_fault};
 ghost use Rattle.standing.specs.LentMeaning.{layers_meaning, standing_meaning};
 
 use crate::change::Change;
@@ -21,22 +21,24 @@ pub fn standing<'a, N: Netlist>(
     netlist: &'a N,
     changes: &[Change],
 ) -> MuteLayer<StrapLayer<Lent<'a, N>>>
-    ensures { standing_meaning N.Netlist.meaning result ≡ applied (N.Netlist.meaning netlist.now) (latest_first (length changes.now) changes.now) }
+    ensures { standing_meaning N.Netlist.meaning result ≡ applied (N.Netlist.meaning netlist.now) (reverse changes.now) }
 {
     let mut layers = MuteLayer::over(StrapLayer::over(Lent { netlist }));
     for change in changes {
+        // A refusal changes nothing; of a plan's changes none is refused.
         let _ = apply_change(&mut layers, *change);
     }
     layers
 }
 
-/// Applies a change. One that the layers refuse changes nothing, and is answered by their refusal.
+/// Applies a change. One that the layers refuse is answered by their refusal, and leaves the layers as they were.
 pub fn apply_change<N: Netlist>(
     layers: &mut MuteLayer<StrapLayer<N>>,
     change: Change,
 ) -> Result<(), Fault>
     ensures applies { layers_meaning N.Netlist.meaning layers.new ≡ apply change (layers_meaning N.Netlist.meaning layers.old) }
     ensures checked { Checked (change_fault change (layers_meaning N.Netlist.meaning layers.old)) result }
+    ensures refused { IfErr result (λ fault. layers.new ≡ layers.old) }
 {
     match change {
         Change::Strapped(a, b) => layers.below.strap(a, b),

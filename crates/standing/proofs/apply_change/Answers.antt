@@ -1,8 +1,9 @@
-use Rattle.std.proofs.Common.{sym, ap, ◌∙◌, subst}
+use Rattle.std.proofs.Math.Nat.{ℕ_set}
+use Rattle.std.proofs.Common.{◌≡◌, length, sym, ap, ◌∙◌, subst}
 use Rattle.layers.specs.Layered.{strap_meaning, strap_sound, mute_meaning, mute_sound}
 use Rattle.layers.specs.Refusals.{Checked}
 use Rattle.standing.specs.Standing.{apply, change_fault}
-use Rattle.standing.proofs.Layering.{straps_apply_under, straps_checked, mutes_apply, mutes_checked}
+use Rattle.standing.proofs.Layering.{straps_apply_under, straps_checked, straps_refused, mutes_apply, mutes_checked, mutes_refused}
 use Rattle.standing.proofs.apply_change.Goals as goal
 
 pub returns-in-Strapped : goal.returns-in-Strapped
@@ -16,6 +17,9 @@ returns-in-Strapped g c =
           ∙ ap (λ change. apply change (mute_meaning means old)) (sym c.in-Strapped.is);
       checked = subst (λ change. Checked (change_fault change (mute_meaning means old)) c.strap.result) (sym c.in-Strapped.is)
           (straps_checked means old.below c.strap.new.self a b c.strap.result c.strap.ensures.straps);
+      refused = straps_refused means a b old.below c.strap.new.self c.strap.result c.strap.ensures.straps
+          (λ below. record { below = below; row = old.row; long = c.layers-1.given.0 }) old
+          (ap (λ (long : length old.row ≡ 1024). record { below = old.below; row = old.row; long = long }) (ℕ_set (length old.row) 1024 c.layers-1.given.0 old.long));
     }
 
 pub returns-in-Muted : goal.returns-in-Muted
@@ -29,4 +33,5 @@ returns-in-Muted g c =
           ∙ ap (λ change. apply change (mute_meaning means old)) (sym c.in-Muted.is);
       checked = subst (λ change. Checked (change_fault change (mute_meaning means old)) c.mute.result) (sym c.in-Muted.is)
           (mutes_checked (mute_meaning means) old c.mute.new.self net c.mute.result c.mute.ensures.mutes);
+      refused = mutes_refused (mute_meaning means) net old c.mute.new.self c.mute.result c.mute.ensures.mutes;
     }

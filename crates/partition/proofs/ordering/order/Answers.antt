@@ -23,7 +23,7 @@ returns-clause-call g c =
     let k = g.N.Price.Price.kind in
     let m = g.N.Netlist.meaning c.args.netlist.now in
     let round = c.new-round.ensures in
-    ordered k m c.args.cells.now c.order.new.cells c.args.bytes.now c.order.new.bytes _ c.module_count-count.result c.new-round.result.count c.order.result
+    ordered k g.met.N.Price.Price.lawful m c.args.cells.now c.order.new.cells c.args.bytes.now c.order.new.bytes _ c.module_count-count.result c.new-round.result.count c.order.result
     (ap₂ (λ n row. grouped k (g.N.Netlist.meaning n) row) round.netlist (ap (λ x. x.row) round.groups) ∙ grouped_own k m c.singles.result.row (g.N.Netlist.sound c.args.netlist.now) c.singles.ensures.own)
     c.module_count-count.ensures round.count (omega arith) (omega arith) (omega arith) c.order.ensures.order c.order.ensures.cells c.order.ensures.price
 

@@ -1,9 +1,9 @@
 use Rattle.std.proofs.Common.{Err, ap, ◌∙◌, arith}
 use Rattle.std.proofs.lemmas.Result.{err_from_is_err_and}
-use Rattle.arrayvec.specs.ArrayVec.{array_vec_len}
 use Rattle.plan.specs.Reckoning.{making}
 use Rattle.plan.specs.Plans.{standing_changes}
-use Rattle.plan.proofs.PlanSteps.{length_latest, change_room, change_refused, change_done}
+use Rattle.std.proofs.lemmas.List.{length-reverse}
+use Rattle.plan.proofs.PlanSteps.{change_room, change_refused, change_done}
 use Rattle.plan.proofs.plans.Plan.make_change.Goals as goal
 
 pub returns-in_err-check_change : goal.returns-in_err-check_change
@@ -16,7 +16,7 @@ returns-in_err-check_change g c =
 pub add-requires : goal.add-requires
 add-requires g c =
     let plan = c.args.self.now in
-    let long = length_latest (array_vec_len plan.changes) plan.changes.items in
+    let long = length-reverse plan.changes.items in
     let room = change_room (g.N.Netlist.meaning plan.below) (standing_changes plan) c.args.change c.in_ok-check_change.ensures in
     omega arith
 
