@@ -1,7 +1,8 @@
 -- Keys after one net more, and what a step takes.
-use Rattle.std.proofs.Common.{◌≡◌, ℕ, zero, suc, ◌+◌, ◌≤◌, Bool, true, false, cond, List, [], ◌∷◌, length, replicate, take, Some, None, sym, refl, ap, ◌∙◌, ap₂, arith}
+use Rattle.std.proofs.Common.{◌≡◌, ℕ, zero, suc, ◌+◌, ◌<◌, ◌≤◌, Bool, true, false, cond, eqb, List, [], ◌∷◌, length, replicate, take, set, Some, None, sym, refl, ap, ◌∙◌, ap₂, ⊎_elim, arith}
 use Rattle.std.specs.List.{slice_get}
-use Rattle.std.proofs.lemmas.List.{take_all}
+use Rattle.std.proofs.lemmas.List.{take_all, get_or-set_same, get_or-set_other}
+use Rattle.std.proofs.lemmas.Bool.{both_ways, eqb-true, eq-eqb, cases_Bool}
 use Rattle.moduleset.specs.Words.{has as is_in}
 use Rattle.price.specs.Kind.{Kind, Laws}
 use Rattle.netlist.specs.Nets.{Net, price_at}
@@ -9,7 +10,12 @@ use Rattle.cut.specs.Cuts.{total, pulls}
 use Rattle.cut.proofs.Totals.{total_append}
 use Rattle.grouping.proofs.Nth.{nth_next}
 use Rattle.grouping.specs.Masks.{SetOf}
-use Rattle.partition.specs.Pulls.{pulled, key_in, NetJoined, KeysArePulls}
+use Rattle.partition.specs.Pulls.{pulled, key_in, KeysArePulls}
+
+-- the price is joined onto the key of the waiting module at which a net with these pins pulls, and onto no other
+abbrev pub NetJoined : {P : Type 0} → Kind P → ℕ → List ℕ → P → List P → List P → Type 0
+NetJoined k taken pins price cells cells' =
+    (v : ℕ) → is_in taken v ≡ false → key_in k cells' v ≡ cond (pulls v (is_in taken) pins) (k.join (key_in k cells v) price) (key_in k cells v)
 
 module _ {P : Type 0} (k : Kind P) where
   module _ (l : Laws k) where
@@ -59,6 +65,35 @@ module _ {P : Type 0} (k : Kind P) where
       joined r.0.pins (masks r.0 r.1) v o
       ∙ ap₂ (λ x y. cond (pulls v (is_in taken) r.0.pins) (k.join x y) x) (keys v h o) (sym r.2)
       ∙ total_more l (pulls v (is_in taken)) nets i r.0 r.1
+
+  price_there : (nets : List (Net P)) (i : ℕ) → i < length nets → (p : P) × (Some p ≡ price_at nets i)
+  price_there [] i h = absurd (omega arith)
+  price_there (x ∷ nets) zero h = (x.price, refl)
+  price_there (x ∷ nets) (suc i) h = price_there nets i (omega arith)
+
+  -- where the net pulls nowhere, the keys stay
+  pub keys_stay : Laws k → (nets : List (Net P)) (taken i mask : ℕ) (cells : List P) → i < length nets → ((net : Net P) → slice_get nets i ≡ Some net → SetOf mask net.pins)
+      → ((pins : List ℕ) → SetOf mask pins → (u : ℕ) → is_in taken u ≡ false → false ≡ pulls u (is_in taken) pins) → KeysArePulls k (take i nets) taken cells
+      → KeysArePulls k (take (i + 1) nets) taken cells
+  keys_stay l nets taken i mask cells there masks none keys =
+      let p = price_there nets i there in
+      keys_more l nets taken i mask p.0 cells cells masks p.1
+      (λ pins s u o. ap (λ b. cond b (k.join (key_in k cells u) p.0) (key_in k cells u)) (none pins s u o)) keys
+
+  -- where it pulls at v, its price is joined onto the key of v
+  pub joined_at : (taken : ℕ) (pins : List ℕ) (p : P) (cells cells' : List P) (v : ℕ) → v < length cells → cells' ≡ set cells v (k.join (key_in k cells v) p)
+      → ((u : ℕ) → is_in taken u ≡ false → eqb u v ≡ pulls u (is_in taken) pins) → NetJoined k taken pins p cells cells'
+  joined_at taken pins p cells cells' v h e at u o =
+      let joined = k.join (key_in k cells v) p in
+      ap (λ xs. key_in k xs u) e
+      ∙ ⊎_elim
+      (λ t. (let same : u ≡ v = eqb-true u v t in
+      ap (key_in k (set cells v joined)) same ∙ get_or-set_same cells v joined k.zero h ∙ ap (λ (x : ℕ). k.join (key_in k cells x) p) (sym same)
+      ∙ ap (λ b. cond b (k.join (key_in k cells u) p) (key_in k cells u)) (sym t)))
+      (λ t. get_or-set_other cells v u joined k.zero (λ q. both_ways (eqb u v) t (eq-eqb u v q))
+      ∙ ap (λ b. cond b (k.join (key_in k cells u) p) (key_in k cells u)) (sym t))
+      (cases_Bool (eqb u v))
+      ∙ ap (λ b. cond b (k.join (key_in k cells u) p) (key_in k cells u)) (at u o)
 
   pub keys_all : (nets : List (Net P)) (taken i : ℕ) (cells : List P) → length nets ≤ i → KeysArePulls k (take i nets) taken cells → KeysArePulls k nets taken cells
   keys_all nets taken i cells h keys v b o = keys v b o ∙ ap (λ xs. pulled k xs taken v) (take_all i nets h)

@@ -1,9 +1,9 @@
 -- The steps of an order, with sets of modules as 64-bit words.
-use Rattle.std.specs.Prelude.{◌≡◌, ℕ, ◌<◌, true, false, cond, ◌||◌, List, ◌++◌, drop, replicate, Option, MatchOption, nat_le, slice_index_or}
+use Rattle.std.specs.Prelude.{◌≡◌, ℕ, ◌<◌, true, false, ◌||◌, List, ◌++◌, drop, replicate, Option, MatchOption, nat_le, slice_index_or}
 use Rattle.moduleset.specs.Words.{has as is_in}
 use Rattle.price.specs.Kind.{Kind, NotGreater}
 use Rattle.netlist.specs.Nets.{Net}
-use Rattle.cut.specs.Cuts.{has, pulls, pull}
+use Rattle.cut.specs.Cuts.{has, pull}
 use Rattle.grouping.specs.Masks.{AlsoHas}
 
 -- zero in the first n cells, the later ones as they were
@@ -32,11 +32,6 @@ pub record Greatest {P : Type 0} (k : Kind P) (key : ℕ → P) (taken n v : ℕ
 -- the key of v in a row of cells
 abbrev pub key_in : {P : Type 0} → Kind P → List P → ℕ → P
 key_in k cells v = slice_index_or cells v k.zero
-
--- the price is joined onto the key of the waiting module at which a net with these pins pulls, and onto no other
-abbrev pub NetJoined : {P : Type 0} → Kind P → ℕ → List ℕ → P → List P → List P → Type 0
-NetJoined k taken pins price cells cells' =
-    (v : ℕ) → is_in taken v ≡ false → key_in k cells' v ≡ cond (pulls v (is_in taken) pins) (k.join (key_in k cells v) price) (key_in k cells v)
 
 -- each waiting module's key is its pull toward those taken
 abbrev pub KeysArePulls : {P : Type 0} → Kind P → List (Net P) → ℕ → List P → Type 0

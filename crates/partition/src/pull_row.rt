@@ -1,10 +1,8 @@
 //! The pull row: a key for each module in the cells handed in, and which modules are taken.
-ghost use Rattle.std.specs.Prelude.{◌≡◌, ℕ, ◌<◌, true, List, length, replicate, if◌then◌else◌, MatchOption};
+ghost use Rattle.std.specs.Prelude.{◌≡◌, ℕ, ◌<◌, true, length, replicate, slice_set, if◌then◌else◌, MatchOption};
 ghost use Rattle.moduleset.specs.Words.{has as is_in};
-ghost use Rattle.grouping.specs.Masks.{SetOf};
-ghost use Rattle.partition.specs.Pulls.{WaitBelow, Greatest, TakesGreatest, NetJoined, key_in};
+ghost use Rattle.partition.specs.Pulls.{WaitBelow, Greatest, TakesGreatest, key_in};
 
-use grouping::masks::pulled_at;
 use moduleset::ModuleSet;
 use price::Price;
 
@@ -17,16 +15,14 @@ pub(crate) struct PullRow<'a, P> {
 }
 
 impl<'a, P: Price> PullRow<'a, P> {
-    /// Joins a net's price onto the key of the module at which the net pulls.
-    pub(crate) fn join(&mut self, net: ModuleSet, price: P)
-        ensures joined { (pins : List ℕ) → SetOf net.word pins → NetJoined P.kind self.old.taken.word pins price self.old.cells.now self.new.cells.now }
-        ensures long { length self.new.cells.now ≡ length self.old.cells.now }
+    /// Joins a price onto the key of a module.
+    pub(crate) fn join(&mut self, v: u8, price: P)
+        requires { v < length self.old.cells.now }
+        ensures cells { self.new.cells.now ≡ slice_set self.old.cells.now v (P.kind.join (key_in P.kind self.old.cells.now v) price) }
         ensures taken { self.new.taken ≡ self.old.taken }
     {
-        if let Some(v) = pulled_at(net, self.taken) {
-            let key = self.cells[v as usize];
-            self.cells[v as usize] = key.join(price);
-        }
+        let key = self.key(v);
+        self.cells[v as usize] = key.join(price);
     }
 
     /// Takes the waiting module with the greatest key, the lowest on equal keys.

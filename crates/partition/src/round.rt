@@ -11,6 +11,7 @@ ghost use Rattle.partition.specs.Rounds.{by_noted, SameSplit, GroupRow, NetGroup
 use crate::groups::Groups;
 use crate::pull_row::{PullRow, clear};
 use grouping::groups::group_set;
+use grouping::masks::pulled_at;
 use moduleset::ModuleSet;
 use netlist::Netlist;
 use price::Price;
@@ -124,11 +125,18 @@ impl<'a, N: Netlist> Round<'a, N> {
         ensures taken { pulls.new.taken ≡ pulls.old.taken }
     {
         clear(pulls.cells);
-        for (i, mask) in self.groups.masks.iter().enumerate() {
+        for (i, mask) in self.groups.masks[..self.netlist.net_count()]
+            .iter()
+            .enumerate()
+        {
+            let Some(v) = pulled_at(*mask, pulls.taken) else {
+                continue;
+            };
+            // Asked only where the net pulls: most nets do not, at most steps.
             let Some(price) = self.netlist.price(i) else {
                 break;
             };
-            pulls.join(*mask, price);
+            pulls.join(v, price);
         }
     }
 }
