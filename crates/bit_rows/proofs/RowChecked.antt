@@ -11,8 +11,8 @@ use Rattle.moduleset.specs.Words.{has, members}
 use Rattle.moduleset.proofs.Members.{members_rise, members_front}
 use Rattle.refusal.specs.Checks.{first_fault}
 use Rattle.bottom.specs.LoadFaults.{few_fault, pin_fault, net_fault, repeats}
-use Rattle.refusal.proofs.CheckLaws.{first_of_none, first_at}
-use Rattle.bottom.proofs.FirstFaults.{some_of_none, few_searched, pin_missing, pin_fine}
+use Rattle.refusal.proofs.CheckLaws.{some_of_none, first_of_none, first_at}
+use Rattle.bottom.proofs.FirstFaults.{few_searched, pin_missing, pin_fine}
 use Rattle.bit_rows.specs.Rows.{few}
 
 -- rising pins do not repeat

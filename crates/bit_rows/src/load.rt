@@ -1,6 +1,7 @@
 //! Loading bit rows: the checks in their order, then the rows as they are.
 ghost use Rattle.std.specs.Prelude.{◌≡◌, length};
-ghost use Rattle.bottom.specs.LoadFaults.{few_fault, checked, Loads};
+ghost use Rattle.refusal.specs.Checks.{checked};
+ghost use Rattle.bottom.specs.LoadFaults.{few_fault, Loads};
 ghost use Rattle.bit_rows.specs.Rows.{few, rows_fault, rows_meaning};
 ghost use Rattle.bit_rows.specs.Means.{means};
 

@@ -1,7 +1,8 @@
 //! The check of the pins that are loaded.
 ghost use Rattle.std.specs.Prelude.{◌≡◌, ◌≤◌, length};
 ghost use Rattle.moduleset.specs.Words.{members};
-ghost use Rattle.bottom.specs.LoadFaults.{net_fault, pins_fault, checked};
+ghost use Rattle.refusal.specs.Checks.{checked};
+ghost use Rattle.bottom.specs.LoadFaults.{net_fault, pins_fault};
 ghost use Rattle.bit_rows.specs.Rows.{row_pins};
 
 use moduleset::ModuleSet;

@@ -1,12 +1,12 @@
 -- What the questions about a bottom answer, over plain values.
 use Rattle.std.proofs.Common.{◌≡◌, ℕ, zero, suc, ◌+◌, ◌<◌, ◌≤◌, max, ltb, false, Bor, Option, List, [], ◌∷◌, map, length, get_or, replicate, Some, None, sym, refl, ap, ◌∙◌, ap₂, add-zero, zero-add, arith}
 use Rattle.std.specs.List.{range_with_len as counting, slice_get, HoldsAt}
-use Rattle.std.specs.Option.{option_map, option_copied, is_some, IfSome, MatchOption}
+use Rattle.std.specs.Option.{option_map, option_and_then, option_copied, is_some, IfSome, MatchOption}
 use Rattle.std.proofs.lemmas.List.FromFn.{length-range_with_len, get_or-range_with_len}
 use Rattle.std.proofs.lemmas.Option.{slice_get-get_or, slice_get_past, slice_get_read}
 use Rattle.std.proofs.lemmas.Bool.{ltb-true, ltb-false}
 use Rattle.price.specs.Kind.{Kind}
-use Rattle.netlist.specs.Nets.{Net, then, pin_count_at, pin_at, price_at}
+use Rattle.netlist.specs.Nets.{Net, pin_count_at, pin_at, price_at}
 use Rattle.netlist.specs.Places.{place, groups, placed}
 use Rattle.netlist.specs.Meaning.{zero_muted, own_nets}
 use Rattle.bottom.specs.BottomMeaning.{nets_from, bottom_meaning}
@@ -87,10 +87,10 @@ module _ {P : Type 0} (k : Kind P) (modules : ℕ) (pins : ℕ → List ℕ) (pr
   count_absent net h = ap (option_map (λ n. length n.pins)) (no_net net h)
 
   pub pin_asked : (net position : ℕ) → net < length prices → pin_at (own_nets k (bottom_meaning modules pins prices)) net position ≡ slice_get (pins net) position
-  pin_asked net position h = ap (λ o. then o (λ n. slice_get n.pins position)) (at_net net h).1
+  pin_asked net position h = ap (option_and_then (λ n. slice_get n.pins position)) (at_net net h).1
 
   pub pin_absent : (net position : ℕ) → length prices ≤ net → pin_at (own_nets k (bottom_meaning modules pins prices)) net position ≡ None
-  pin_absent net position h = ap (λ o. then o (λ n. slice_get n.pins position)) (no_net net h)
+  pin_absent net position h = ap (option_and_then (λ n. slice_get n.pins position)) (no_net net h)
 
 -- what each question about a bottom asks
 pub ruleset asked = (groups_counting, length-range_with_len, length_nets, price_read, read, count_asked, count_absent, pin_asked, pin_absent)

@@ -5,18 +5,20 @@ ghost use Rattle.std.specs.Prelude.{◌≡◌};
 ghost use Rattle.std.specs.Option.{option_map};
 ghost use Rattle.refusal.specs.declared.Place.TheVariants.{Net};
 ghost use Rattle.refusal.specs.declared.Fault.TheVariants.{TooFewPins};
-ghost use Rattle.bottom.specs.LoadFaults.{counts_fault, checked};
+ghost use Rattle.refusal.specs.Checks.{checked};
+ghost use Rattle.bottom.specs.LoadFaults.{counts_fault};
 
+use netlist::limits::{MODULES_MOST, NETS_MOST};
 use refusal::{Fault, Place};
 
 /// Refuses more than 64 modules, then more than 1,024 nets.
 pub fn check_counts(modules: usize, nets: usize) -> Result<(), Fault>
     ensures { result ≡ checked (counts_fault modules nets) }
 {
-    if modules > 64 {
+    if modules > MODULES_MOST {
         return Err(Fault::TooManyModules { at: Place::Call });
     }
-    if nets > 1024 {
+    if nets > NETS_MOST {
         return Err(Fault::TooManyNets { at: Place::Call });
     }
     Ok(())

@@ -4,6 +4,7 @@ ghost use Rattle.chain.specs.Chains.{means, means_sound, chain_meaning, chain_pi
 
 use crate::Chain;
 use netlist::Netlist;
+use netlist::limits::MODULES_MOST;
 use price::Price;
 use price::values::Wires;
 
@@ -13,7 +14,7 @@ impl Chain {
         ensures { means result ≡ chain_meaning (min modules 64) }
     {
         Chain {
-            modules: modules.min(64),
+            modules: modules.min(MODULES_MOST as u8),
         }
     }
 

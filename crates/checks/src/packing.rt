@@ -3,10 +3,10 @@ ghost use Rattle.std.specs.Prelude.{◌≤◌};
 
 use std::alloc::{AllocError, Global};
 
-/// A field: its number and its width in bits.
+// A field: its number and its width in bits.
 pub(crate) type Field = (u32, u32);
 
-/// The bits packed so far: whole bytes, and the bits of the next.
+// The bits packed so far: whole bytes, and the bits of the next.
 #[derive(Drop)]
 pub(crate) struct Packer {
     bytes: Vec<u8>,
@@ -48,7 +48,7 @@ impl Packer {
         Ok(())
     }
 
-    /// The bytes, the last filled up with zero bits.
+    // The bytes, the last filled up with zero bits.
     pub(crate) fn finish(mut self) -> Result<Vec<u8>, AllocError> {
         for _ in 0..7 {
             if self.filled != 0 {

@@ -130,7 +130,7 @@ fn too_few_pins(rt: HostRuntime) -> Result<(), Fail> {
 }
 
 #[test]
-fn pins_that_are_not_there_or_repeat(rt: HostRuntime) -> Result<(), Fail> {
+fn pins_that_are_not_there(rt: HostRuntime) -> Result<(), Fail> {
     fields_refused(
         &rt,
         &[WIRES, (3, 7), (1, 11), (2, 7), (3, 6), (0, 6), (9, 32)],
@@ -142,38 +142,38 @@ fn pins_that_are_not_there_or_repeat(rt: HostRuntime) -> Result<(), Fail> {
         &[WIRES, (3, 7), (1, 11), (2, 7), (0, 6), (3, 6), (9, 32)],
         7,
         35,
-    )?;
-    fields_refused(
-        &rt,
-        &[
-            WIRES,
-            (3, 7),
-            (1, 11),
-            (3, 7),
-            (0, 6),
-            (1, 6),
-            (0, 6),
-            (9, 32),
-        ],
-        8,
-        41,
-    )?;
-    fields_refused(
-        &rt,
-        &[
-            WIRES,
-            (3, 7),
-            (1, 11),
-            (3, 7),
-            (1, 6),
-            (1, 6),
-            (5, 6),
-            (9, 32),
-        ],
-        8,
-        35,
-    )?;
-    // a pin that is not there is told before a repeat, and a missing bit before both
+    )
+}
+
+#[test]
+fn pins_that_repeat(rt: HostRuntime) -> Result<(), Fail> {
+    let third = [
+        WIRES,
+        (3, 7),
+        (1, 11),
+        (3, 7),
+        (0, 6),
+        (1, 6),
+        (0, 6),
+        (9, 32),
+    ];
+    fields_refused(&rt, &third, 8, 41)?;
+    let second = [
+        WIRES,
+        (3, 7),
+        (1, 11),
+        (3, 7),
+        (1, 6),
+        (1, 6),
+        (5, 6),
+        (9, 32),
+    ];
+    fields_refused(&rt, &second, 8, 35)
+}
+
+// A pin that is not there is told before a repeat, and a missing bit before both.
+#[test]
+fn which_fault_of_a_pin_is_told(rt: HostRuntime) -> Result<(), Fail> {
     fields_refused(
         &rt,
         &[WIRES, (3, 7), (1, 11), (2, 7), (4, 6), (4, 6), (9, 32)],
@@ -248,7 +248,7 @@ fn tables_one_entry_short(rt: HostRuntime) {
 }
 
 #[test]
-fn other_kinds_unpack(rt: HostRuntime) -> Result<(), Fail> {
+fn timers_first_unpacks(rt: HostRuntime) -> Result<(), Fail> {
     let mut packer = Packer::new(rt.alloc());
     packer.fields(&[
         (2, 4),
@@ -282,6 +282,11 @@ fn other_kinds_unpack(rt: HostRuntime) -> Result<(), Fail> {
             wires: 2,
         }]
     );
+    Ok(())
+}
+
+#[test]
+fn widest_unpacks(rt: HostRuntime) -> Result<(), Fail> {
     let mut packer = Packer::new(rt.alloc());
     packer.fields(&[
         (3, 4),

@@ -1,22 +1,35 @@
 -- The function `order` obeys the rule and has as many modules as there are.
-use Rattle.std.proofs.Common.{◌≡◌, ℕ, zero, suc, ◌+◌, ◌<◌, ◌≤◌, true, false, cond, eqb, ◌⊎◌, List, [], ◌∷◌, length, sym, refl, ap, ◌∙◌, subst, inl, inr, ⊎_elim, arith}
+use Rattle.std.proofs.Common.{◌≡◌, ℕ, zero, suc, ◌+◌, ◌<◌, ◌≤◌, Bool, true, false, cond, not, eqb, ◌⊎◌, List, [], ◌∷◌, length, sym, refl, ap, ◌∙◌, subst, inl, inr, ⊎_elim, arith}
 use native.Mathlib.Nat.{suc_inj}
+use Rattle.std.specs.List.{filter, range_with_len}
+use Rattle.std.proofs.lemmas.List.FromFn.{length-range_with_len}
 use Rattle.std.proofs.lemmas.Bool.{false≢true, eqb-true, eqb-false, ne_eqb, cases_Bool, cases_eq, cases_order, or_parts, or_from, cond_both}
 use Rattle.price.specs.Kind.{Kind, NotGreater, Laws}
 use Rattle.netlist.specs.Nets.{Net}
 use Rattle.cut.specs.Cuts.{has, pull}
-use Rattle.cut.specs.Orders.{MostPulled, TakenAsListed, IsOrder, most_pulled, without, numbers, next_taken, order}
+use Rattle.cut.specs.Orders.{MostPulled, TakenAsListed, IsOrder, most_pulled, next_taken, order}
 use Rattle.cut.specs.OrderLaws.{OrderIsTheOnlyOne, OrderTakesEachOnce}
 use Rattle.cut.proofs.Members.{has_head, has_tail, has_at_head, has_cases, has_one}
 use Rattle.cut.proofs.Totals.{le_refl, le_trans, less_le, less_le_less, le_less_less}
 use Rattle.cut.proofs.OrderRule.{order_one, order_times}
 
 -- the list without v
+abbrev without : ℕ → List ℕ → List ℕ
+without v ws = filter (λ w. not (eqb w v)) ws
+
+-- v goes, another stays
+kept_both : (v w : ℕ) (gone kept : List ℕ) (P : List ℕ → Type 0) → (eqb w v ≡ true → P gone) → (eqb w v ≡ false → P kept) → P (cond (not (eqb w v)) kept gone)
+kept_both v w gone kept P f g = by_test (eqb w v) f g
+  where
+    by_test : (t : Bool) → (t ≡ true → P gone) → (t ≡ false → P kept) → P (cond (not t) kept gone)
+    by_test true f g = f refl
+    by_test false f g = g refl
+
 without_member : (v : ℕ) (ws : List ℕ) (p : ℕ) → has (without v ws) p ≡ true → (has ws p ≡ true) × (p ≡ v → ⊥)
 without_member v [] p h = absurd (false≢true h)
 without_member v (w ∷ ws) p h =
     let tail : has (without v ws) p ≡ true → (has (w ∷ ws) p ≡ true) × (p ≡ v → ⊥) = λ i. (let r = without_member v ws p i in (has_tail w ws p r.0, r.1)) in
-    cond_both (eqb w v) (without v ws) (w ∷ without v ws) (λ z. has z p ≡ true → (has (w ∷ ws) p ≡ true) × (p ≡ v → ⊥))
+    kept_both v w (without v ws) (w ∷ without v ws) (λ z. has z p ≡ true → (has (w ∷ ws) p ≡ true) × (p ≡ v → ⊥))
     (λ e. tail)
     (λ e i. ⊎_elim (λ q. (has_at_head w ws p q, λ r. eqb-false w v e (sym q ∙ r))) tail (has_cases w (without v ws) p i))
     h
@@ -24,7 +37,7 @@ without_member v (w ∷ ws) p h =
 member_without : (v : ℕ) (ws : List ℕ) (p : ℕ) → has ws p ≡ true → (p ≡ v → ⊥) → has (without v ws) p ≡ true
 member_without v [] p h d = absurd (false≢true h)
 member_without v (w ∷ ws) p h d =
-    cond_both (eqb w v) (without v ws) (w ∷ without v ws) (λ z. has z p ≡ true)
+    kept_both v w (without v ws) (w ∷ without v ws) (λ z. has z p ≡ true)
     (λ e. ⊎_elim (λ q. absurd (d (q ∙ eqb-true w v e))) (λ q. member_without v ws p q d) (has_cases w ws p h))
     (λ e. ⊎_elim (has_at_head w (without v ws) p) (λ q. has_tail w (without v ws) p (member_without v ws p q d)) (has_cases w ws p h))
 
@@ -36,42 +49,38 @@ Rising (w ∷ ws) = ((x : ℕ) → has ws x ≡ true → w < x) × Rising ws
 without_rising : (v : ℕ) (ws : List ℕ) → Rising ws → Rising (without v ws)
 without_rising v [] r = tt
 without_rising v (w ∷ ws) r =
-    cond_both (eqb w v) (without v ws) (w ∷ without v ws) Rising
+    kept_both v w (without v ws) (w ∷ without v ws) Rising
     (λ e. without_rising v ws r.1)
     (λ e. (λ x h. r.0 x (without_member v ws x h).0, without_rising v ws r.1))
 
 without_absent : (v : ℕ) (ws : List ℕ) → (has ws v ≡ true → ⊥) → without v ws ≡ ws
 without_absent v [] h = refl
 without_absent v (w ∷ ws) h =
-    ap (λ b. cond b (without v ws) (w ∷ without v ws)) (ne_eqb w v (λ e. h (has_at_head w ws v (sym e))))
+    ap (λ b. cond (not b) (w ∷ without v ws) (without v ws)) (ne_eqb w v (λ e. h (has_at_head w ws v (sym e))))
     ∙ ap (λ z. w ∷ z) (without_absent v ws (λ i. h (has_tail w ws v i)))
 
 -- of a rising list, one fewer
 without_one : (v : ℕ) (ws : List ℕ) → Rising ws → has ws v ≡ true → suc (length (without v ws)) ≡ length ws
 without_one v [] r h = absurd (false≢true h)
 without_one v (w ∷ ws) r h =
-    cond_both (eqb w v) (without v ws) (w ∷ without v ws) (λ z. suc (length z) ≡ suc (length ws))
+    kept_both v w (without v ws) (w ∷ without v ws) (λ z. suc (length z) ≡ suc (length ws))
     (λ e. ap (λ z. suc (length z)) (without_absent v ws (λ i. absurd (omega (arith, eqb-true w v e, r.0 v i)))))
     (λ e. ap suc (without_one v ws r.1 (⊎_elim (λ q. absurd (eqb-false w v e (sym q))) (λ q. q) (has_cases w ws v h))))
 
-member_numbers : (i n p : ℕ) → i ≤ p → p < i + n → has (numbers i n) p ≡ true
+member_numbers : (i n p : ℕ) → i ≤ p → p < i + n → has (range_with_len i n) p ≡ true
 member_numbers i zero p a b = absurd (omega arith)
 member_numbers i (suc n) p a b = ⊎_elim
-    (has_at_head i (numbers (suc i) n) p)
-    (λ d. has_tail i (numbers (suc i) n) p (member_numbers (suc i) n p (omega arith) (omega arith)))
+    (has_at_head i (range_with_len (i + 1) n) p)
+    (λ d. has_tail i (range_with_len (i + 1) n) p (member_numbers (i + 1) n p (omega arith) (omega arith)))
     (cases_eq p i)
 
-numbers_member : (i n p : ℕ) → has (numbers i n) p ≡ true → (i ≤ p) × (p < i + n)
+numbers_member : (i n p : ℕ) → has (range_with_len i n) p ≡ true → (i ≤ p) × (p < i + n)
 numbers_member i zero p h = absurd (false≢true h)
-numbers_member i (suc n) p h = ⊎_elim (λ e. omega arith) (λ e. omega (arith, numbers_member (suc i) n p e)) (has_cases i (numbers (suc i) n) p h)
+numbers_member i (suc n) p h = ⊎_elim (λ e. omega arith) (λ e. omega (arith, numbers_member (i + 1) n p e)) (has_cases i (range_with_len (i + 1) n) p h)
 
-pub length_numbers : (i n : ℕ) → length (numbers i n) ≡ n
-length_numbers i zero = refl
-length_numbers i (suc n) = ap suc (length_numbers (suc i) n)
-
-numbers_rising : (i n : ℕ) → Rising (numbers i n)
+numbers_rising : (i n : ℕ) → Rising (range_with_len i n)
 numbers_rising i zero = tt
-numbers_rising i (suc n) = (λ x h. omega (arith, numbers_member (suc i) n x h), numbers_rising (suc i) n)
+numbers_rising i (suc n) = (λ x h. omega (arith, numbers_member (i + 1) n x h), numbers_rising (i + 1) n)
 
 module _ {P : Type 0} (k : Kind P) (l : Laws k) (nets : List (Net P)) (taken : List ℕ) where
   abbrev pulled : ℕ → P
@@ -189,10 +198,10 @@ module _ {P : Type 0} (k : Kind P) (l : Laws k) (nets : List (Net P)) (m : ℕ) 
       ((most_is_next taken w ws a r, rest.0), ap suc rest.1)
 
 module _ {P : Type 0} (k : Kind P) (l : Laws k) (nets : List (Net P)) where
-  order_begun : (n : ℕ) → TakenAsListed k nets (suc n) (0 ∷ []) (next_taken k nets n (0 ∷ []) (numbers 1 n)) × (length (next_taken k nets n (0 ∷ []) (numbers 1 n)) ≡ n)
-  order_begun n = next_as_listed k l nets (suc n) n (0 ∷ []) (numbers 1 n) (length_numbers 1 n) waiting (numbers_rising 1 n)
+  order_begun : (n : ℕ) → TakenAsListed k nets (suc n) (0 ∷ []) (next_taken k nets n (0 ∷ []) (range_with_len 1 n)) × (length (next_taken k nets n (0 ∷ []) (range_with_len 1 n)) ≡ n)
+  order_begun n = next_as_listed k l nets (suc n) n (0 ∷ []) (range_with_len 1 n) (length-range_with_len 1 n) waiting (numbers_rising 1 n)
     where
-      waiting : Waiting (suc n) (0 ∷ []) (numbers 1 n)
+      waiting : Waiting (suc n) (0 ∷ []) (range_with_len 1 n)
       waiting w = (
         (λ h. (omega (arith, numbers_member 1 n w h), or_from (eqb w 0) false (ne_eqb w 0 (λ e. absurd (omega (arith, numbers_member 1 n w h)))) refl)),
         (λ lt out. member_numbers 1 n w (positive w (eqb-false w 0 (or_parts (eqb w 0) false out).0)) (omega arith)),

@@ -1,11 +1,12 @@
 -- What the rule of the order says: which modules a list that obeys it takes, how often, and that there is one such list.
 use Rattle.std.proofs.Common.{◌≡◌, ℕ, ◌+◌, ◌<◌, ◌≤◌, true, false, cond, eqb, ltb, ◌⊎◌, List, [], ◌∷◌, sym, refl, ap, ◌∙◌, subst, ap₂, inl, inr, ⊎_elim, arith}
+use Rattle.std.specs.List.{count_by}
+use Rattle.std.proofs.lemmas.List.Sums.{sum_by-cons}
 use Rattle.std.proofs.lemmas.Bool.{false≢true, both_ways, eq-eqb, ne_eqb, lt-ltb, le-ltb, cases_Bool, cases_eq, cases_lt, or_parts}
 use Rattle.price.specs.Kind.{Kind, NotGreater, Laws}
 use Rattle.netlist.specs.Nets.{Net}
 use Rattle.cut.specs.Cuts.{has, pull}
 use Rattle.cut.specs.Orders.{MostPulled, TakenAsListed, IsOrder}
-use Rattle.cut.specs.OrderLaws.{times}
 use Rattle.cut.proofs.Members.{has_tail, has_at_head, has_cases, has_one}
 use Rattle.cut.proofs.Totals.{le_refl, less_le}
 
@@ -69,10 +70,10 @@ module _ {P : Type 0} (k : Kind P) (nets : List (Net P)) (m : ℕ) where
   order_one l (v ∷ vs) (w ∷ ws) a b = ap₂ (λ x xs. x ∷ xs) (b.1 ∙ sym a.1) (taken_one l (0 ∷ []) vs ws a.2 b.2)
 
   -- a module that was taken or is not there is not listed, one that waits is listed once
-  times_taken : (taken list : List ℕ) → TakenAsListed k nets m taken list → (w : ℕ) → (has taken w ≡ true) ⊎ (m ≤ w) → times w list ≡ 0
+  times_taken : (taken list : List ℕ) → TakenAsListed k nets m taken list → (w : ℕ) → (has taken w ≡ true) ⊎ (m ≤ w) → count_by (eqb w) list ≡ 0
   times_taken taken [] t w o = refl
   times_taken taken (v ∷ rest) t w o =
-      ap₂ (λ b n. cond b 1 0 + n) (ne_eqb w v other) (times_taken (v ∷ taken) rest t.1 w (⊎_elim (λ h. inl (has_tail v taken w h)) inr o))
+      sum_by-cons _ v rest ∙ ap₂ (λ b n. cond b 1 0 + n) (ne_eqb w v other) (times_taken (v ∷ taken) rest t.1 w (⊎_elim (λ h. inl (has_tail v taken w h)) inr o))
     where
       other : w ≡ v → ⊥
       other e = ⊎_elim
@@ -80,28 +81,28 @@ module _ {P : Type 0} (k : Kind P) (nets : List (Net P)) (m : ℕ) where
           (λ h. absurd (omega (arith, t.0.there)))
           o
 
-  times_waiting : (taken list : List ℕ) → TakenAsListed k nets m taken list → (w : ℕ) → has taken w ≡ false → w < m → times w list ≡ 1
+  times_waiting : (taken list : List ℕ) → TakenAsListed k nets m taken list → (w : ℕ) → has taken w ≡ false → w < m → count_by (eqb w) list ≡ 1
   times_waiting taken [] t w out h = absurd (both_ways (has taken w) out (t w h))
   times_waiting taken (v ∷ rest) t w out h = ⊎_elim
-      (λ e. ap₂ (λ b n. cond b 1 0 + n) (eq-eqb w v e) (times_taken (v ∷ taken) rest t.1 w (inl (has_at_head v taken w e))))
-      (λ d. ap₂ (λ b n. cond b 1 0 + n) (ne_eqb w v d) (times_waiting (v ∷ taken) rest t.1 w (later d) h))
+      (λ e. sum_by-cons _ v rest ∙ ap₂ (λ b n. cond b 1 0 + n) (eq-eqb w v e) (times_taken (v ∷ taken) rest t.1 w (inl (has_at_head v taken w e))))
+      (λ d. sum_by-cons _ v rest ∙ ap₂ (λ b n. cond b 1 0 + n) (ne_eqb w v d) (times_waiting (v ∷ taken) rest t.1 w (later d) h))
       (cases_eq w v)
     where
       later : (w ≡ v → ⊥) → has (v ∷ taken) w ≡ false
       later d = ⊎_elim (λ e. absurd (⊎_elim d (both_ways (has taken w) out) (has_cases v taken w e))) (λ e. e) (cases_Bool (has (v ∷ taken) w))
 
-  pub order_times : (list : List ℕ) → IsOrder k nets m list → (w : ℕ) → times w list ≡ cond (ltb w m) 1 0
+  pub order_times : (list : List ℕ) → IsOrder k nets m list → (w : ℕ) → count_by (eqb w) list ≡ cond (ltb w m) 1 0
   order_times [] o w = sym (ap (λ b. cond b 1 0) (le-ltb w m (omega (arith, o))))
   order_times (v ∷ rest) o w = ⊎_elim
-      (λ e. ap₂ (λ b n. cond b 1 0 + n) (eq-eqb w v (e ∙ sym o.1)) (times_taken (0 ∷ []) rest o.2 w (inl (has_at_head 0 [] w e)))
+      (λ e. sum_by-cons _ v rest ∙ ap₂ (λ b n. cond b 1 0 + n) (eq-eqb w v (e ∙ sym o.1)) (times_taken (0 ∷ []) rest o.2 w (inl (has_at_head 0 [] w e)))
       ∙ sym (ap (λ b. cond b 1 0) (lt-ltb w m (omega (arith, o.0)))))
-      (λ d. ap (λ b. cond b 1 0 + times w rest) (ne_eqb w v (λ e. d (e ∙ o.1))) ∙ (drop_zero (times w rest) ∙ later d (cases_lt w m)))
+      (λ d. sum_by-cons _ v rest ∙ ap (λ b. cond b 1 0 + count_by (eqb w) rest) (ne_eqb w v (λ e. d (e ∙ o.1))) ∙ (drop_zero (count_by (eqb w) rest) ∙ later d (cases_lt w m)))
       (cases_eq w 0)
     where
       drop_zero : (n : ℕ) → 0 + n ≡ n
       drop_zero n = omega arith
 
-      later : (w ≡ 0 → ⊥) → (w < m) ⊎ (m ≤ w) → times w rest ≡ cond (ltb w m) 1 0
+      later : (w ≡ 0 → ⊥) → (w < m) ⊎ (m ≤ w) → count_by (eqb w) rest ≡ cond (ltb w m) 1 0
       later d (inl h) =
           times_waiting (0 ∷ []) rest o.2 w (⊎_elim (λ e. absurd (d (has_one 0 w e))) (λ e. e) (cases_Bool (has (0 ∷ []) w))) h
           ∙ sym (ap (λ b. cond b 1 0) (lt-ltb w m h))

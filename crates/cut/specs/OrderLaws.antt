@@ -1,5 +1,5 @@
 -- What holds of orders, for every price kind.
-use Rattle.std.specs.Prelude.{◌≡◌, ℕ, ◌+◌, ◌<◌, Bool, cond, List, [], ◌∷◌, length, ◌==◌, ◌≢◌, nat_lt}
+use Rattle.std.specs.Prelude.{◌≡◌, ℕ, ◌<◌, Bool, cond, List, ◌∷◌, length, count_by, ◌≢◌, nat_eq, nat_lt}
 use Rattle.std.specs.List.{AllByRecursion}
 use Rattle.price.specs.Kind.{Kind, NotGreater}
 use Rattle.netlist.specs.Nets.{Net, OnPins}
@@ -10,15 +10,10 @@ use Rattle.cut.specs.Orders.{IsOrder, order, Ending, ending}
 abbrev pub OrderIsTheOnlyOne : {P : Type 0} → Kind P → Type 0
 OrderIsTheOnlyOne {P} k = (nets : List (Net P)) (m : ℕ) → IsOrder k nets m (order k nets m) × ((list : List ℕ) → IsOrder k nets m list → list ≡ order k nets m)
 
--- how often the list has v
-abbrev pub times : ℕ → List ℕ → ℕ
-times v [] = 0
-times v (w ∷ ws) = cond (v == w) 1 0 + times v ws
-
 -- An order of the modules below m has each of these once, and nothing else.
 abbrev pub OrderTakesEachOnce : {P : Type 0} → Kind P → Type 0
 OrderTakesEachOnce {P} k =
-    (nets : List (Net P)) (m : ℕ) → (length (order k nets m) ≡ m) × ((v : ℕ) → times v (order k nets m) ≡ cond (nat_lt v m) 1 0)
+    (nets : List (Net P)) (m : ℕ) → (length (order k nets m) ≡ m) × ((v : ℕ) → count_by (nat_eq v) (order k nets m) ≡ cond (nat_lt v m) 1 0)
 
 -- The last is pulled by all others at the price of parting it off alone, and no split that parts the last two is cheaper than that.
 pub record LastParted {P : Type 0} (k : Kind P) (nets : List (Net P)) (end : Ending) : Type 0 where

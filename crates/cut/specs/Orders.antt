@@ -1,5 +1,6 @@
 -- The order of the modules: it begins with module 0 and always takes the module most pulled by those taken.
-use Rattle.std.specs.Prelude.{◌≡◌, ℕ, zero, suc, ◌<◌, true, false, cond, ◌⊎◌, List, [], ◌∷◌, ◌==◌}
+use Rattle.std.specs.Prelude.{◌≡◌, ℕ, zero, suc, ◌<◌, true, false, cond, not, ◌⊎◌, List, [], ◌∷◌, filter, ◌==◌}
+use Rattle.std.specs.List.{range_with_len}
 use Rattle.price.specs.Kind.{Kind}
 use Rattle.netlist.specs.Nets.{Net}
 use Rattle.cut.specs.Cuts.{has, pull}
@@ -28,26 +29,17 @@ abbrev pub most_pulled : {P : Type 0} → Kind P → List (Net P) → List ℕ �
 most_pulled k nets taken v [] = v
 most_pulled k nets taken v (w ∷ ws) = most_pulled k nets taken (cond (k.less (pull k nets v (has taken)) (pull k nets w (has taken))) w v) ws
 
-abbrev pub without : ℕ → List ℕ → List ℕ
-without v [] = []
-without v (w ∷ ws) = cond (w == v) (without v ws) (w ∷ without v ws)
-
--- n numbers from i on
-abbrev pub numbers : ℕ → ℕ → List ℕ
-numbers i zero = []
-numbers i (suc n) = i ∷ numbers (suc i) n
-
 -- the next n modules that are taken of those that wait
 abbrev pub next_taken : {P : Type 0} → Kind P → List (Net P) → ℕ → List ℕ → List ℕ → List ℕ
 next_taken k nets zero taken waiting = []
 next_taken k nets (suc n) taken [] = []
 next_taken k nets (suc n) taken (w ∷ ws) =
     let v = most_pulled k nets taken w ws in
-    v ∷ next_taken k nets n (v ∷ taken) (without v (w ∷ ws))
+    v ∷ next_taken k nets n (v ∷ taken) (filter (λ x. not (x == v)) (w ∷ ws))
 
 unfoldable pub order : {P : Type 0} → Kind P → List (Net P) → ℕ → List ℕ
 order k nets zero = []
-order k nets (suc n) = 0 ∷ next_taken k nets n (0 ∷ []) (numbers 1 n)
+order k nets (suc n) = 0 ∷ next_taken k nets n (0 ∷ []) (range_with_len 1 n)
 
 -- The end of an order: its last two, and what was taken before them, the latest first.
 pub record Ending : Type 0 where

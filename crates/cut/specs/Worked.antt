@@ -1,6 +1,6 @@
 -- Worked lines: what is asked of small netlists, and what the definitions answer.
 use Rattle.std.specs.Prelude.{◌≡◌, ℕ, ◌+◌, ◌*◌, ◌^◌, false, List, [], ◌∷◌, map, Some, None, Option}
-use Rattle.std.specs.List.{AllByRecursion}
+use Rattle.std.specs.List.{range_with_len, AllByRecursion}
 use Rattle.price.specs.Kind.{Kind}
 use Rattle.price.specs.Wires.{wires}
 use Rattle.price.specs.TimersFirst.{timers_first}
@@ -10,7 +10,7 @@ use Rattle.netlist.specs.Meaning.{Meaning, homes, modules, own_nets}
 use Rattle.netlist.specs.Changes.{strapped, muted_also}
 use Rattle.cut.specs.Cuts.{split_price, alone}
 use Rattle.cut.specs.Lawful.{Split}
-use Rattle.cut.specs.Orders.{numbers, order, ending}
+use Rattle.cut.specs.Orders.{order, ending}
 use Rattle.cut.specs.Rounds.{split_of}
 use Rattle.cut.specs.SidesWord.{sides_word}
 
@@ -49,7 +49,7 @@ module _ {P : Type 0} (k : Kind P) where
   -- each home module a group of its own, and nothing muted
   abbrev pub unchanged : ℕ → List (Net ℕ) → Meaning P
   unchanged count nets = record {
-    places = numbers 0 count;
+    places = range_with_len 0 count;
     nets = map (λ net. record { price = k.field net.price; pins = net.pins }) nets;
     muted = map (λ _. false) nets;
   }

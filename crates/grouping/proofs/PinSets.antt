@@ -1,21 +1,17 @@
 -- A net's pins as a set, and the module at which the net pulls.
 use Rattle.std.proofs.Common.{◌≡◌, ℕ, zero, suc, ◌+◌, ◌<◌, ◌≤◌, true, false, not, ◌&&◌, ◌||◌, eqb, List, [], ◌∷◌, ◌++◌, map, length, get_or, take, set, IfSome, Some, None, Option, sym, refl, ap, ◌∙◌, subst, ⊎_elim, arith}
 use Rattle.std.specs.List.{slice_get, AllByRecursion}
-use Rattle.std.proofs.lemmas.List.{take_all, get_or-set_same, get_or-set_other, map-set, map-append, length-map}
+use Rattle.std.proofs.lemmas.List.{take_all, get_or-set_same, get_or-set_other, get_or_append_left, map-set, map-append, length-map}
 use Rattle.std.proofs.Math.Bool.{or-false, or_assoc}
 use Rattle.std.proofs.lemmas.Bool.{both_ways, not-true, eqb-true, eq-eqb, cases_Bool, cases_lt, and_parts, and_from, or_cases, or_left, or_right}
 use Rattle.moduleset.specs.Words.{has as is_in, members, lone}
 use Rattle.moduleset.proofs.Sets.{has_past}
 use Rattle.moduleset.proofs.Members.{lone_has, member_has, has_member, members_rise}
-use Rattle.price.specs.Kind.{Kind}
 use Rattle.netlist.specs.Nets.{Net, OnPins, pin_at}
-use Rattle.netlist.specs.Places.{place, placed}
-use Rattle.netlist.specs.Meaning.{Meaning, own_nets}
 use Rattle.cut.specs.Cuts.{has, pulls}
-use Rattle.cut.proofs.Members.{Member, has_head, has_tail, any_member, member_any, every_member, members_every, all_member, member_of_map, same_tests, pulls_parts, pulls_from}
+use Rattle.cut.proofs.Members.{Member, has_head, has_tail, any_member, member_any, every_member, members_every, all_member, same_tests, pulls_parts, pulls_from}
 use Rattle.grouping.specs.Masks.{pins_of, SetOf, MasksOf, AlsoHas, names}
 use Rattle.grouping.proofs.Nth.{nth_past, nth_next}
-use Rattle.grouping.proofs.OwnNets.{own_length}
 
 -- a set that has one module alone
 one_member : (w v : ℕ) → v < 64 → ((u : ℕ) → is_in w u ≡ eqb u v) → lone (members w) ≡ Some v
@@ -160,5 +156,11 @@ pub masks_set : {P X : Type 0} (word : X → ℕ) (nets : List (Net P)) (masks :
 masks_set word nets masks n mask h f g =
     subst (FirstMasks nets (n + 1)) (sym (map-set word masks n mask)) (masks_more nets (map word masks) n (word mask) (omega (arith, h, length-map masks word)) f g)
 
-pub masks_all : {P : Type 0} (nets : List (Net P)) (n : ℕ) (words : List ℕ) → length nets ≤ n → FirstMasks nets n words → MasksOf words nets
-masks_all nets n words long g i net e v = let h = net_nth nets i net e in g i (omega (arith, h.0, long)) v ∙ ap (λ xs. has xs v) (sym h.1)
+-- whatever elements follow those of the nets
+pub masks_all : {P X : Type 0} (word : X → ℕ) (nets : List (Net P)) (masks rest : List X) (n : ℕ) → length nets ≤ n → n ≤ length masks → FirstMasks nets n (map word masks)
+    → MasksOf (map word (masks ++ rest)) nets
+masks_all word nets masks rest n all long g i net e v =
+    let h = net_nth nets i net e in
+    let inside : i < length (map word masks) = omega (arith, h.0, length-map masks word) in
+    ap (λ (x : ℕ). is_in x v) (ap (λ words. get_or words i 0) (map-append word masks rest) ∙ get_or_append_left (map word masks) (map word rest) 0 i inside)
+    ∙ g i (omega (arith, h.0)) v ∙ ap (λ xs. has xs v) (sym h.1)

@@ -4,7 +4,7 @@ use Rattle.std.specs.List.{slice_get}
 use Rattle.moduleset.specs.Words.{has as is_in}
 use Rattle.price.specs.Kind.{Kind}
 use Rattle.netlist.specs.Nets.{Net}
-use Rattle.netlist.specs.Places.{place, placed}
+use Rattle.netlist.specs.Places.{placed}
 use Rattle.netlist.specs.Changes.{united_place}
 use Rattle.netlist.specs.Meaning.{Meaning, own_nets}
 use Rattle.cut.specs.Cuts.{has}

@@ -5,9 +5,10 @@ ghost use Rattle.netlist.specs.Places.{place as place_in};
 ghost use Rattle.cut.specs.Cuts.{alone};
 
 use moduleset::ModuleSet;
+use netlist::limits::MODULES_MOST;
 
 /// The modules of a group.
-pub fn group_set(row: [u8; 64], group: u8) -> ModuleSet
+pub fn group_set(row: [u8; MODULES_MOST], group: u8) -> ModuleSet
     ensures { (v : ℕ) → v < 64 → is_in result.word v ≡ alone group (place_in row v) }
 {
     let mut set = ModuleSet::empty();

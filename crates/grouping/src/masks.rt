@@ -1,32 +1,33 @@
 //! Nets as sets of modules or of groups, and the module at which a net pulls.
-ghost use Rattle.std.specs.Prelude.{◌≡◌, ℕ, ◌<◌, false, List, length, map, IfSome, slice_index};
+ghost use Rattle.std.specs.Prelude.{◌≡◌, ℕ, ◌<◌, false, List, map, IfSome, slice_index};
 ghost use Rattle.moduleset.specs.Words.{has as is_in};
 ghost use Rattle.netlist.specs.Meaning.{own_nets};
 ghost use Rattle.cut.specs.Cuts.{pulls};
-ghost use Rattle.grouping.specs.Masks.{SetOf, UnitedSet, pins_of, names};
+ghost use Rattle.grouping.specs.Masks.{SetOf, MasksOf, UnitedSet, pins_of, names};
 
 use moduleset::ModuleSet;
 use netlist::Netlist;
+use netlist::limits::{MODULES_MOST, NETS_MOST};
 use price::Price;
 
 /// Of each net the modules of its pins, so that no step asks for the pins again.
-pub fn gather<N: Netlist>(netlist: &N) -> [ModuleSet; 1024]
-    ensures { (i : ℕ) → i < length (N.meaning netlist.now).nets → SetOf (slice_index (map (λ mask. mask.word) result) i) (pins_of (own_nets N.Price.Price.kind (N.meaning netlist.now)) i) }
+pub fn gather<N: Netlist>(netlist: &N) -> [ModuleSet; NETS_MOST]
+    ensures { MasksOf (map (λ mask. mask.word) result) (own_nets N.Price.Price.kind (N.meaning netlist.now)) }
 {
-    let mut masks = [ModuleSet::empty(); 1024];
+    let mut masks = [ModuleSet::empty(); NETS_MOST];
     for (i, mask) in masks[..netlist.net_count()].iter_mut().enumerate() {
         *mask = net_mask(netlist, i);
     }
     masks
 }
 
-/// The modules of a net's pins.
+// The modules of a net's pins.
 fn net_mask<N: Netlist>(netlist: &N, net: usize) -> ModuleSet
     ensures { SetOf result.word (pins_of (own_nets N.Price.Price.kind (N.meaning netlist.now)) net) }
 {
     let mut mask = ModuleSet::empty();
-    // A loop over `(0..64).map_while(..)`: tried, and the check stops at the type of its iterator.
-    for k in 0..64 {
+    // A loop over `(0..MODULES_MOST).map_while(..)`: tried, and the check stops at the type of its iterator.
+    for k in 0..MODULES_MOST {
         let Some(pin) = netlist.pin(net, k) else {
             break;
         };
@@ -36,7 +37,7 @@ fn net_mask<N: Netlist>(netlist: &N, net: usize) -> ModuleSet
 }
 
 /// Of each net the groups of its pins, once groups `a` and `b` are one.
-pub fn united_masks(masks: [ModuleSet; 1024], a: u8, b: u8) -> [ModuleSet; 1024]
+pub fn united_masks(masks: [ModuleSet; NETS_MOST], a: u8, b: u8) -> [ModuleSet; NETS_MOST]
     ensures { (i : ℕ) → i < 1024 → UnitedSet a b (slice_index (map (λ mask. mask.word) masks) i) (slice_index (map (λ mask. mask.word) result) i) }
 {
     masks.map(
@@ -46,7 +47,7 @@ pub fn united_masks(masks: [ModuleSet; 1024], a: u8, b: u8) -> [ModuleSet; 1024]
     )
 }
 
-/// The groups of a net's pins, once groups `a` and `b` are one.
+// The groups of a net's pins, once groups `a` and `b` are one.
 fn united_mask(mask: ModuleSet, a: u8, b: u8) -> ModuleSet
     ensures { UnitedSet a b mask.word result.word }
 {

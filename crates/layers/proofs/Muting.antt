@@ -2,17 +2,14 @@
 use Rattle.std.proofs.Common.{◌≡◌, ℕ, zero, suc, ◌<◌, Bool, true, false, cond, ◌||◌, List, [], ◌∷◌, map, length, get_or, set, replicate, Some, None, Option, sym, refl, ap, ◌∙◌, ap₂, arith}
 use Rattle.std.specs.Option.{option_map}
 use Rattle.std.specs.List.{slice_get}
+use Rattle.std.proofs.Math.Bool.{or-false}
+use Rattle.std.proofs.lemmas.Option.{none-some}
 use Rattle.price.specs.Kind.{Kind}
 use Rattle.netlist.specs.Nets.{Net, pin_count_at, pin_at, price_at}
 use Rattle.netlist.specs.Places.{place, placed}
 use Rattle.netlist.specs.Meaning.{Meaning, Sound, zero_muted, own_nets}
 use Rattle.layers.specs.declared.mute.MuteLayer.{MuteLayer}
 use Rattle.layers.specs.Layered.{muted_by_either, mute_meaning}
-use Rattle.layers.proofs.Nth.{none_there}
-
-or_false : (a : Bool) → (a || false) ≡ a
-or_false true = refl
-or_false false = refl
 
 or_true : (a : Bool) → (a || true) ≡ true
 or_true true = refl
@@ -20,11 +17,11 @@ or_true false = refl
 
 or_nothing : (o : Option Bool) → o ≡ option_map (λ mark. mark || false) o
 or_nothing None = refl
-or_nothing (Some mark) = ap Some (sym (or_false mark))
+or_nothing (Some mark) = ap Some (sym (or-false mark))
 
 nth_either : (marks row : List Bool) (n : ℕ) → slice_get (muted_by_either marks row) n ≡ option_map (λ mark. mark || get_or row n false) (slice_get marks n)
 nth_either [] row n = refl
-nth_either (mark ∷ marks) [] zero = ap Some (sym (or_false mark))
+nth_either (mark ∷ marks) [] zero = ap Some (sym (or-false mark))
 nth_either (mark ∷ marks) [] (suc n) = or_nothing (slice_get marks n)
 nth_either (mark ∷ marks) (own ∷ row) zero = refl
 nth_either (mark ∷ marks) (own ∷ row) (suc n) = nth_either marks row n
@@ -32,7 +29,7 @@ nth_either (mark ∷ marks) (own ∷ row) (suc n) = nth_either marks row n
 pub none_by_row : (marks : List Bool) (n : ℕ) → muted_by_either marks (replicate n false) ≡ marks
 none_by_row [] n = refl
 none_by_row (mark ∷ marks) zero = refl
-none_by_row (mark ∷ marks) (suc n) = ap₂ ◌∷◌ (or_false mark) (none_by_row marks n)
+none_by_row (mark ∷ marks) (suc n) = ap₂ ◌∷◌ (or-false mark) (none_by_row marks n)
 
 pub one_more_by_row : (marks row : List Bool) (n : ℕ) → n < length row → muted_by_either marks (set row n true) ≡ set (muted_by_either marks row) n true
 one_more_by_row [] row n h = refl
@@ -140,7 +137,7 @@ module _ {P : Type 0} (m : Meaning P) (sound : Sound m) where
   length_placed (net ∷ nets) = ap suc (length_placed nets)
 
   priced_there : (nets : List (Net P)) (n : ℕ) (p : P) → Some p ≡ price_at nets n → n < length nets
-  priced_there [] n p e = absurd (none_there p e)
+  priced_there [] n p e = absurd (none-some p (sym e))
   priced_there (net ∷ nets) zero p e = omega arith
   priced_there (net ∷ nets) (suc n) p e = omega (arith, priced_there nets n p e)
 

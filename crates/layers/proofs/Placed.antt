@@ -3,6 +3,7 @@ use Rattle.std.proofs.Common.{◌≡◌, ℕ, zero, suc, ◌<◌, Bool, List, []
 use lib.ListN.{length-map}
 use Rattle.std.specs.Option.{option_map}
 use Rattle.std.specs.List.{AllByRecursion, slice_get}
+use Rattle.std.proofs.lemmas.Option.{none-some, slice_get-map}
 use Rattle.price.specs.Kind.{Kind}
 use Rattle.netlist.specs.Nets.{Net, OnPins, pin_count_at, pin_at, price_at}
 use Rattle.netlist.specs.Places.{place, placed}
@@ -10,7 +11,7 @@ use Rattle.netlist.specs.Meaning.{Meaning, Sound, zero_muted, own_nets}
 use Rattle.netlist.proofs.Numbering.{place_map}
 use Rattle.layers.specs.Rows.{regrouped, places_few}
 use Rattle.layers.specs.Layered.{strap_meaning}
-use Rattle.layers.proofs.Nth.{nth_map, nth_all, none_there}
+use Rattle.layers.proofs.Nth.{nth_all}
 use Rattle.layers.specs.declared.strap.StrapLayer.{StrapLayer}
 
 pins_twice : (row places pins : List ℕ) → AllByRecursion (λ pin. pin < length places) pins → map (place (regrouped row places)) pins ≡ map (place row) (map (place places) pins)
@@ -35,7 +36,7 @@ module _ {P : Type 0} where
 
   pub placed_pin : (row : List ℕ) (nets : List (Net P)) (n j : ℕ) → pin_at (placed row nets) n j ≡ option_map (place row) (pin_at nets n j)
   placed_pin row [] n j = refl
-  placed_pin row (net ∷ nets) zero j = nth_map (place row) net.pins j
+  placed_pin row (net ∷ nets) zero j = slice_get-map (place row) net.pins j
   placed_pin row (net ∷ nets) (suc n) j = placed_pin row nets n j
 
   pub placed_price : (row : List ℕ) (nets : List (Net P)) (n : ℕ) → price_at (placed row nets) n ≡ price_at nets n
@@ -46,7 +47,7 @@ module _ {P : Type 0} where
 -- what a strap layer answers, by the answer below
 module _ {P N : Type 0} (below : N → Meaning P) (sound : (n : N) → Sound (below n)) (k : Kind P) (layer : StrapLayer N) where
   pub strap_place : (home : ℕ) (p : Option ℕ) → p ≡ slice_get (below layer.below).places home → option_map (place layer.row) p ≡ slice_get (strap_meaning below layer).places home
-  strap_place home p e = ap (option_map (place layer.row)) e ∙ sym (nth_map (place layer.row) (below layer.below).places home)
+  strap_place home p e = ap (option_map (place layer.row)) e ∙ sym (slice_get-map (place layer.row) (below layer.below).places home)
 
   -- its nets are the nets below with each pin replaced by its group
   strap_nets : own_nets k (strap_meaning below layer) ≡ placed layer.row (own_nets k (below layer.below))
@@ -84,7 +85,7 @@ module _ {P : Type 0} (m : Meaning P) (sound : Sound m) where
   low_anywhere (p ∷ ps) (suc i) all = low_anywhere ps i all.1
 
   low_mapped : (o : Option ℕ) (p : ℕ) → Some p ≡ option_map (place m.places) o → p < 64
-  low_mapped None p e = absurd (none_there p e)
+  low_mapped None p e = absurd (none-some p (sym e))
   low_mapped (Some i) p e = let same : place m.places i ≡ p = cc in subst (λ q. q < 64) same (low_anywhere m.places i few)
 
   pub pin_low : (k : Kind P) (n j p : ℕ) → Some p ≡ pin_at (own_nets k m) n j → p < 64

@@ -25,8 +25,3 @@ HomePlace home m (Err fault) = (homes m ≤ home) × (fault ≡ NoSuchHomeModule
 abbrev pub Ends : {P : Type 0} → ℕ → ℕ → Meaning P → Result (ℕ × ℕ) Fault → Type 0
 Ends a b m (Ok ends) = (strap_fault a b m ≡ None) × (ends.0 ≡ place m.places a) × (ends.1 ≡ place m.places b)
 Ends a b m (Err fault) = strap_fault a b m ≡ Some fault
-
--- a check that finds this fault, or none
-abbrev pub Checked : Option Fault → Result (Unit {0}) Fault → Type 0
-Checked found (Ok _) = found ≡ None
-Checked found (Err fault) = found ≡ Some fault

@@ -1,6 +1,8 @@
 //! The mute layer: what it stands on, with more nets muted.
 ghost use Rattle.std.specs.Prelude.{◌≡◌, length};
 
+use netlist::limits::NETS_MOST;
+
 pub mod changes;
 pub mod questions;
 
@@ -9,6 +11,6 @@ pub mod questions;
 #[derive(Drop)]
 pub struct MuteLayer<N> {
     pub below: N,
-    row: [bool; 1024],
+    row: [bool; NETS_MOST],
     ghost long: { length row ≡ 1024 },
 }

@@ -2,6 +2,8 @@
 ghost use Rattle.std.specs.Prelude.{◌≡◌, length};
 ghost use Rattle.layers.specs.Rows.{InTurn};
 
+use netlist::limits::MODULES_MOST;
+
 pub mod changes;
 pub mod questions;
 
@@ -10,7 +12,7 @@ pub mod questions;
 #[derive(Drop)]
 pub struct StrapLayer<N> {
     below: N,
-    row: [u8; 64],
+    row: [u8; MODULES_MOST],
     ghost long: { length row ≡ 64 },
     ghost numbered: { InTurn row },
 }

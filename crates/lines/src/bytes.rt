@@ -7,16 +7,16 @@ use crate::LINE_ROOM;
 use arrayvec::ArrayVec;
 use itoa::{Buffer, Integer};
 
-/// What a line has before its byte 0x0A.
+// What a line has before its byte 0x0A.
 const BODY_ROOM: usize = LINE_ROOM - 1;
 
-/// The bytes of a line.
+// The bytes of a line.
 pub(crate) type LineBytes = ArrayVec<u8, LINE_ROOM>;
 
-/// The bytes of a line before its byte 0x0A.
+// The bytes of a line before its byte 0x0A.
 pub(crate) type Body = ArrayVec<u8, BODY_ROOM>;
 
-/// Puts the bytes of a text.
+// Puts the bytes of a text.
 pub(crate) fn put_text<const ROOM: usize>(line: &mut ArrayVec<u8, ROOM>, text: &[u8])
     requires { array_vec_len line.old + length text.now ≤ ROOM }
     ensures bytes { line.new.items ≡ line.old.items ++ text.now }
@@ -25,7 +25,7 @@ pub(crate) fn put_text<const ROOM: usize>(line: &mut ArrayVec<u8, ROOM>, text: &
     line.try_extend_from_slice(text).unwrap();
 }
 
-/// Puts a number's decimal digits.
+// Puts a number's decimal digits.
 pub(crate) fn put_decimal<I: Integer>(line: &mut Body, number: I)
     requires { array_vec_len line.old + I.MAX_STR_LEN ≤ 36 }
     ensures bytes { line.new.items ≡ line.old.items ++ I.text number }
@@ -34,7 +34,7 @@ pub(crate) fn put_decimal<I: Integer>(line: &mut Body, number: I)
     put_text(line, Buffer::new().format(number).as_bytes());
 }
 
-/// Puts the 16 hexadecimal digits of a word.
+// Puts the 16 hexadecimal digits of a word.
 pub(crate) fn put_hex(line: &mut Body, word: u64)
     requires { array_vec_len line.old + 16 ≤ 36 }
     ensures bytes { line.new.items ≡ line.old.items ++ hex_digits 16 word }

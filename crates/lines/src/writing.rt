@@ -34,7 +34,7 @@ impl From<Fault> for Line {
 
 impl Line {
     // `Display` and `write!` into a string of fixed capacity: tried, and that this never fails stayed open.
-    /// The bytes of the line, byte 0x0A at its end.
+    // The bytes of the line, byte 0x0A at its end.
     fn bytes(self) -> LineBytes
         ensures { result.items ≡ line_bytes self }
     {
@@ -44,7 +44,7 @@ impl Line {
         line
     }
 
-    /// The bytes of the line before its byte 0x0A.
+    // The bytes of the line before its byte 0x0A.
     fn body(self) -> Body
         ensures { result.items ++ newline ≡ line_bytes self }
     {
@@ -72,7 +72,7 @@ pub fn write_line(line: Line, out: &mut [u8]) -> Result<usize, Fault>
     Ok(count)
 }
 
-/// A text alone.
+// A text alone.
 fn text(text: &[u8]) -> Body
     requires { length text.now ≤ 36 }
     ensures { result.items ≡ text.now }
@@ -82,7 +82,7 @@ fn text(text: &[u8]) -> Body
     line
 }
 
-/// A split that was found.
+// A split that was found.
 fn found(sides: u64, word: u64) -> Body
     ensures { result.items ++ newline ≡ found_line sides word }
 {
@@ -94,7 +94,7 @@ fn found(sides: u64, word: u64) -> Body
     line
 }
 
-/// A refused call.
+// A refused call.
 fn refused(fault: Fault) -> Body
     ensures { result.items ++ newline ≡ refused_line fault }
 {
@@ -104,7 +104,7 @@ fn refused(fault: Fault) -> Body
     line
 }
 
-/// A refused page.
+// A refused page.
 fn page_refused(fault: Fault) -> Body
     ensures { result.items ++ newline ≡ page_line fault }
 {

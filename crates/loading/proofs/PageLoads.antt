@@ -5,12 +5,12 @@ use Rattle.std.proofs.lemmas.List.{take_at, drop_at, length-append, length-take-
 use Rattle.std.proofs.lemmas.Bool.{lt-ltb, le-ltb, eq-eqb, ne_eqb}
 use Rattle.refusal.specs.declared.Fault.{Fault}
 use Rattle.refusal.specs.declared.Fault.TheVariants.{TooShort}
-use Rattle.refusal.proofs.CheckLaws.{first_of_none, or_none, or_else_none, fault_if_false}
+use Rattle.refusal.proofs.CheckLaws.{some_of_none, first_of_none, or_none, option_or_none, then_some_false}
 use Rattle.price.specs.Kind.{Kind}
 use Rattle.netlist.specs.Meaning.{Meaning}
 use Rattle.bottom.specs.BottomMeaning.{nets_from}
 use Rattle.bottom.specs.LoadFaults.{counts_fault, few_fault, net_fault, pins_fault, Loads}
-use Rattle.bottom.proofs.FirstFaults.{some_of_none, pin_fine}
+use Rattle.bottom.proofs.FirstFaults.{pin_fine}
 use Rattle.pin_tables.specs.Tables.{net_pins as owned, disagree, few, tables_fault, tables_meaning}
 use Rattle.page.specs.Layout.{modules_field, nets_field, pin_count, net_bit, net_pins, pins_table, starts_table, prices_table}
 use Rattle.page.specs.declared.counts.Counts.{Counts}
@@ -70,7 +70,7 @@ module _ (bytes : List ℕ) where
         let counts : counts_fault m n ≡ None = rw (le-ltb 64 m (few_modules bytes kind fine), le-ltb 1024 n (few_nets bytes kind fine)) in
         let agree : disagree starts (length pins) n ≡ false =
         rw (eq-eqb (length starts) (n + 1) (length_starts bytes n), eq-eqb (get_or starts 0 0) 0 (start_at bytes n 0 (omega arith) ∙ none_yet), eq-eqb (get_or starts n 0) (length pins) (start_at bytes n n (omega arith))) in
-        let enough : few_fault (few starts) n ≡ None = first_of_none _ n (λ i h. fault_if_false _ _ (le-ltb (get_or starts (i + 1) 0) (get_or starts i 0 + 2)
+        let enough : few_fault (few starts) n ≡ None = first_of_none _ n (λ i h. then_some_false _ _ (le-ltb (get_or starts (i + 1) 0) (get_or starts i 0 + 2)
         (let a = start_at bytes n i (omega arith) in let b = start_at bytes n (i + 1) (omega arith) in let c = count_more bytes i in let d = two_pins bytes kind fine i h in omega arith))) in
         let there : pins_fault m (owned starts pins) n ≡ None = first_of_none _ n (λ i h. ap (net_fault m i) (owned_same n i h) ∙ net_loads i h) in
         rw (counts, agree, enough, there)
@@ -123,7 +123,7 @@ module _ {P : Type 0} (k : Kind P) (bytes s starts p pins : List ℕ) (c prices 
 
   no_page_fault : page_fault bytes k.number ≡ None
   unfolding unpack_fault
-  no_page_fault = (or_else_none (page_fault bytes k.number) _ filled.no_fault).0
+  no_page_fault = (option_or_none (page_fault bytes k.number) _ filled.no_fault).0
 
   pub filled_fault : counted_fault n starts pins prices ≡ None
   filled_fault =
@@ -165,6 +165,14 @@ module _ {P : Type 0} (n : Counts) (starts pins : List ℕ) (prices : List P) wh
 
   pub prices_short : n.nets + 1 ≤ length starts → n.pins ≤ length pins → length prices < n.nets → counted_fault n starts pins prices ≡ Some (TooShort 3)
   prices_short h i j = rw (le-ltb (length starts) (n.nets + 1) h, le-ltb (length pins) n.pins i, lt-ltb (length prices) n.nets j)
+
+  -- a table that is too short is told, and the tables that were loaded before stay
+  pub short_told : {S : Type 0} (k : Kind P) (means : S → Meaning P) (old : S) (r : Result (Unit {0}) Fault) (table : ℕ)
+      → counted_fault n starts pins prices ≡ Some (TooShort table) → r ≡ Err (TooShort table)
+      → Loads means (counted_fault n starts pins prices) (counted_meaning n starts pins prices) old old r × LoadsPages k n starts pins prices (means old) r
+  short_told k means old r table short told =
+      let loads : Loads means (counted_fault n starts pins prices) (counted_meaning n starts pins prices) old old r = rw told (short, refl) in
+      (loads, pages_load k means n starts pins prices old old r loads)
 
   -- tables long enough: loading their first entries has the fault of those entries, and means them
   pub counted_loads : {S : Type 0} (means : S → Meaning P) (old new : S) (r : Result (Unit {0}) Fault) (s p : List ℕ) (c : List P)

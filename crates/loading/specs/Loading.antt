@@ -1,7 +1,7 @@
 -- Loading the tables that a page was unpacked into.
 use Rattle.std.specs.Prelude.{◌≡◌, ℕ, ◌+◌, List, length, take, Ok, Option, Result}
+use Rattle.std.specs.Option.{option_or}
 use Rattle.refusal.specs.declared.Fault.{Fault}
-use Rattle.refusal.specs.Checks.{or_else}
 use Rattle.price.specs.Kind.{Kind}
 use Rattle.netlist.specs.Meaning.{Meaning}
 use Rattle.bottom.specs.BottomMeaning.{bottom_meaning}
@@ -14,7 +14,7 @@ use Rattle.page.specs.Unpacking.{Filled}
 -- the first fault of tables of which the first entries are loaded, as many as are counted
 abbrev pub counted_fault : {P : Type 0} → Counts → List ℕ → List ℕ → List P → Option Fault
 counted_fault n starts pins prices =
-    or_else (room_fault n.nets n.pins (length starts) (length pins) (length prices))
+    option_or (room_fault n.nets n.pins (length starts) (length pins) (length prices))
     (tables_fault n.modules (take (n.nets + 1) starts) (take n.pins pins) n.nets)
 
 abbrev pub counted_meaning : {P : Type 0} → Counts → List ℕ → List ℕ → List P → Meaning P

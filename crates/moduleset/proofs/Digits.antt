@@ -12,55 +12,39 @@ use Rattle.moduleset.specs.Words.{digit}
 two_pos : zero < 2
 two_pos = lit< tt
 
-small_or : (x y : ℕ) → x < 2 → y < 2 → eqb (bit_or x y) 1 ≡ (eqb x 1 || eqb y 1)
-small_or zero zero p q = refl
-small_or zero (suc zero) p q = refl
-small_or (suc zero) zero p q = refl
-small_or (suc zero) (suc zero) p q = refl
-small_or (suc (suc x)) y p q = absurd (omega arith)
-small_or zero (suc (suc y)) p q = absurd (omega arith)
-small_or (suc zero) (suc (suc y)) p q = absurd (omega arith)
-
-small_and : (x y : ℕ) → x < 2 → y < 2 → eqb (bit_and x y) 1 ≡ (eqb x 1 && eqb y 1)
-small_and zero zero p q = refl
-small_and zero (suc zero) p q = refl
-small_and (suc zero) zero p q = refl
-small_and (suc zero) (suc zero) p q = refl
-small_and (suc (suc x)) y p q = absurd (omega arith)
-small_and zero (suc (suc y)) p q = absurd (omega arith)
-small_and (suc zero) (suc (suc y)) p q = absurd (omega arith)
-
 -- the two tests differ
 abbrev pub differ : Bool → Bool → Bool
 differ true b = not b
 differ false b = b
 
-small_xor : (x y : ℕ) → x < 2 → y < 2 → eqb (bit_xor x y) 1 ≡ differ (eqb x 1) (eqb y 1)
-small_xor zero zero p q = refl
-small_xor zero (suc zero) p q = refl
-small_xor (suc zero) zero p q = refl
-small_xor (suc zero) (suc zero) p q = refl
-small_xor (suc (suc x)) y p q = absurd (omega arith)
-small_xor zero (suc (suc y)) p q = absurd (omega arith)
-small_xor (suc zero) (suc (suc y)) p q = absurd (omega arith)
+-- an operation that does digit by digit what a test does, by the four pairs of digits
+module _ (op : ℕ → ℕ → ℕ) (test : Bool → Bool → Bool)
+    (none : eqb (op 0 0) 1 ≡ test false false) (second : eqb (op 0 1) 1 ≡ test false true)
+    (first : eqb (op 1 0) 1 ≡ test true false) (both : eqb (op 1 1) 1 ≡ test true true) where
+  by_pairs : (x y : ℕ) → x < 2 → y < 2 → eqb (op x y) 1 ≡ test (eqb x 1) (eqb y 1)
+  by_pairs zero zero p q = none
+  by_pairs zero (suc zero) p q = second
+  by_pairs (suc zero) zero p q = first
+  by_pairs (suc zero) (suc zero) p q = both
+  by_pairs (suc (suc x)) y p q = absurd (omega arith)
+  by_pairs zero (suc (suc y)) p q = absurd (omega arith)
+  by_pairs (suc zero) (suc (suc y)) p q = absurd (omega arith)
+
+  by_digit : ((a b j : ℕ) → op a b / 2 ^ j ≡ op (a / 2 ^ j) (b / 2 ^ j)) → ((a b j : ℕ) → op a b % 2 ^ j ≡ op (a % 2 ^ j) (b % 2 ^ j))
+      → (a b j : ℕ) → digit (op a b) j ≡ test (digit a j) (digit b j)
+  unfolding digit
+  by_digit shifted cut a b j =
+      ap (λ (x : ℕ). eqb (x % 2) 1) (shifted a b j) ∙ ap (λ (x : ℕ). eqb x 1) (cut (a / 2 ^ j) (b / 2 ^ j) 1)
+      ∙ by_pairs (a / 2 ^ j % 2) (b / 2 ^ j % 2) (mod-lt _ two_pos) (mod-lt _ two_pos)
 
 pub digit_or : (a b j : ℕ) → digit (bit_or a b) j ≡ (digit a j || digit b j)
-unfolding digit
-digit_or a b j =
-    ap (λ (x : ℕ). eqb (x % 2) 1) (or_shr a b j) ∙ ap (λ (x : ℕ). eqb x 1) (or_mod (a / 2 ^ j) (b / 2 ^ j) 1)
-    ∙ small_or (a / 2 ^ j % 2) (b / 2 ^ j % 2) (mod-lt _ two_pos) (mod-lt _ two_pos)
+digit_or = by_digit bit_or (λ a b. a || b) refl refl refl refl or_shr or_mod
 
 pub digit_and : (a b j : ℕ) → digit (bit_and a b) j ≡ (digit a j && digit b j)
-unfolding digit
-digit_and a b j =
-    ap (λ (x : ℕ). eqb (x % 2) 1) (and_shr a b j) ∙ ap (λ (x : ℕ). eqb x 1) (and_mod (a / 2 ^ j) (b / 2 ^ j) 1)
-    ∙ small_and (a / 2 ^ j % 2) (b / 2 ^ j % 2) (mod-lt _ two_pos) (mod-lt _ two_pos)
+digit_and = by_digit bit_and (λ a b. a && b) refl refl refl refl and_shr and_mod
 
 pub digit_xor : (a b j : ℕ) → digit (bit_xor a b) j ≡ differ (digit a j) (digit b j)
-unfolding digit
-digit_xor a b j =
-    ap (λ (x : ℕ). eqb (x % 2) 1) (xor_shr a b j) ∙ ap (λ (x : ℕ). eqb x 1) (xor_mod (a / 2 ^ j) (b / 2 ^ j) 1)
-    ∙ small_xor (a / 2 ^ j % 2) (b / 2 ^ j % 2) (mod-lt _ two_pos) (mod-lt _ two_pos)
+digit_xor = by_digit bit_xor differ refl refl refl refl xor_shr xor_mod
 
 pub digit_zero : (j : ℕ) → digit 0 j ≡ false
 unfolding digit

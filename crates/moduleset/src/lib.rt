@@ -89,7 +89,7 @@ impl ModuleSet {
         }
     }
 
-    /// The set with each module numbered one lower; module 0 is left out.
+    // The set with each module numbered one lower; module 0 is left out.
     fn one_lower(self) -> ModuleSet
         ensures { (k : ℕ) → k < 64 → is_in result.word k ≡ is_in self.word (suc k) }
     {
@@ -145,7 +145,7 @@ impl ModuleSet {
         ensures { result ≡ slice_get (members self.word) k }
     {
         let mut rest = self;
-        for _i in 0..k {
+        for _ in 0..k {
             rest = rest.without(rest.lowest()?);
         }
         rest.lowest()

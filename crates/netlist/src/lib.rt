@@ -9,6 +9,7 @@ ghost use Rattle.netlist.specs.Nets.{pin_count_at, pin_at, price_at};
 use price::Price;
 
 pub mod laws;
+pub mod limits;
 
 /// A netlist: an implementation says by `meaning` what it is, and each question answers exactly by that.
 /// An answer is absent exactly when the number asked for is not there.

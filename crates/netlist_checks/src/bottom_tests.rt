@@ -1,4 +1,5 @@
 //! Loading: every refusal with its place, and what is answered after.
+use crate::asked::{nets_are, pins_are, places_are};
 use bit_rows::BitRows;
 use fixtures::{SEVEN, told};
 use netlist::Netlist;
@@ -190,6 +191,14 @@ fn pins_of_rows_that_are_not_there(rt: HostRuntime) {
     bits_refused(&rt, &[0x0000_0000_0000_0003, 0xA000_0000_0000_0000], 0, 0);
 }
 
+// Four modules, and the nets {0, 3} at 1 and {1, 2, 3} at 7.
+fn two_nets<N: Netlist<Price = Wires>>(rt: &impl Abort, bottom: &N) {
+    places_are(rt, bottom, &[0, 1, 2, 3]);
+    nets_are(rt, bottom, &[(1, false), (7, false)]);
+    pins_are(rt, bottom, 0, &[0, 3]);
+    pins_are(rt, bottom, 1, &[1, 2, 3]);
+}
+
 #[test]
 fn both_bottoms_answer_alike(rt: HostRuntime) {
     let prices = [ONE, SEVEN];
@@ -199,24 +208,13 @@ fn both_bottoms_answer_alike(rt: HostRuntime) {
             .load(4, &[0, 2, 5], &[0, 3, 1, 2, 3], &prices)
             .is_ok()
     );
+    two_nets(&rt, &tables);
     let mut bits = BitRows::empty();
     assert!(rt;
         bits.load(4, &[0x9000_0000_0000_0000, 0x7000_0000_0000_0000], &prices)
             .is_ok()
     );
-    for net in 0..3 {
-        assert_eq!(rt; tables.pin_count(net), bits.pin_count(net));
-        assert_eq!(rt; tables.price(net), bits.price(net));
-        assert_eq!(rt; tables.is_muted(net), bits.is_muted(net));
-        for k in 0..4 {
-            assert_eq!(rt; tables.pin(net, k), bits.pin(net, k));
-        }
-    }
-    assert_eq!(rt; bits.pin(1, 2), Some(3));
-    assert_eq!(rt; bits.pin(1, 3), None);
-    assert_eq!(rt; tables.price(1), Some(SEVEN));
-    assert_eq!(rt; tables.price(2), None);
-    assert_eq!(rt; tables.is_muted(1), Some(false));
+    two_nets(&rt, &bits);
 }
 
 #[test]

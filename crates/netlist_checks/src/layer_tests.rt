@@ -1,4 +1,5 @@
 //! Layers: straps, mutes, their refusals, and a pile of four.
+use crate::asked::{nets_are, pins_are, places_are};
 use fixtures::five_modules::{PINS, STARTS, WIRES};
 use fixtures::number_of;
 use layers::mute::MuteLayer;
@@ -18,14 +19,8 @@ fn straps_unite_and_number_again(rt: HostRuntime) {
     assert_eq!(rt; layer.module_count(), 4);
     assert_eq!(rt; layer.place(4), Some(2));
     assert_eq!(rt; layer.strap(3, 1), Ok(()));
-    assert_eq!(rt; layer.place(0), Some(0));
-    assert_eq!(rt; layer.place(1), Some(1));
-    assert_eq!(rt; layer.place(2), Some(2));
-    assert_eq!(rt; layer.place(3), Some(1));
-    assert_eq!(rt; layer.place(4), Some(2));
-    assert_eq!(rt; layer.place(5), None);
-    assert_eq!(rt; layer.pin(2, 2), Some(1));
-    assert_eq!(rt; layer.home_count(), 5);
+    places_are(&rt, &layer, &[0, 1, 2, 1, 2]);
+    pins_are(&rt, &layer, 2, &[1, 2, 1]);
 }
 
 #[test]
@@ -33,9 +28,9 @@ fn straps_refused(rt: HostRuntime) {
     let mut tables = PinTables::empty();
     assert!(rt; tables.load(5, &STARTS, &PINS, &WIRES).is_ok());
     let mut layer = StrapLayer::over(tables);
-    assert_eq!(rt; number_of(layer.strap(0, 5)), Some(11));
-    assert_eq!(rt; number_of(layer.strap(9999, 0)), Some(11));
-    assert_eq!(rt; number_of(layer.strap(7, 7)), Some(11));
+    for (a, b) in [(0, 5), (9999, 0), (7, 7)] {
+        assert_eq!(rt; number_of(layer.strap(a, b)), Some(11));
+    }
     assert_eq!(rt; number_of(layer.strap(3, 3)), Some(12));
     assert_eq!(rt; layer.strap(2, 4), Ok(()));
     assert_eq!(rt; number_of(layer.strap(4, 2)), Some(12));
@@ -49,13 +44,15 @@ fn mutes_and_their_refusals(rt: HostRuntime) {
     let mut layer = MuteLayer::over(tables);
     assert_eq!(rt; layer.price(3), Some(Wires { count: 4 }));
     assert_eq!(rt; layer.mute(3), Ok(()));
-    assert_eq!(rt; layer.price(3), Some(Wires { count: 0 }));
-    assert_eq!(rt; layer.is_muted(3), Some(true));
-    assert_eq!(rt; layer.is_muted(2), Some(false));
     assert_eq!(rt; number_of(layer.mute(3)), Some(14));
     assert_eq!(rt; number_of(layer.mute(5)), Some(13));
     assert_eq!(rt; number_of(layer.mute(9999)), Some(13));
-    assert_eq!(rt; layer.pin_count(3), Some(2));
+    nets_are(
+        &rt,
+        &layer,
+        &[(3, false), (2, false), (2, false), (0, true), (1, false)],
+    );
+    pins_are(&rt, &layer, 3, &[3, 4]);
 }
 
 #[test]
@@ -72,27 +69,12 @@ fn a_pile_of_four_layers(rt: HostRuntime) {
     let mut pile = StrapLayer::over(third);
     assert_eq!(rt; number_of(pile.strap(3, 1)), Some(12));
     assert_eq!(rt; pile.strap(4, 1), Ok(()));
-    assert_eq!(rt; pile.home_count(), 5);
     assert_eq!(rt; pile.module_count(), 3);
-    assert_eq!(rt; pile.net_count(), 5);
-    assert_eq!(rt; pile.place(0), Some(0));
-    assert_eq!(rt; pile.place(1), Some(1));
-    assert_eq!(rt; pile.place(2), Some(2));
-    assert_eq!(rt; pile.place(3), Some(1));
-    assert_eq!(rt; pile.place(4), Some(1));
-    assert_eq!(rt; pile.place(5), None);
-    assert_eq!(rt; pile.pin_count(2), Some(3));
-    assert_eq!(rt; pile.pin_count(5), None);
-    assert_eq!(rt; pile.pin(2, 0), Some(1));
-    assert_eq!(rt; pile.pin(2, 1), Some(2));
-    assert_eq!(rt; pile.pin(2, 2), Some(1));
-    assert_eq!(rt; pile.pin(2, 3), None);
-    assert_eq!(rt; pile.price(0), Some(Wires { count: 0 }));
-    assert_eq!(rt; pile.price(2), Some(Wires { count: 2 }));
-    assert_eq!(rt; pile.price(4), Some(Wires { count: 0 }));
-    assert_eq!(rt; pile.price(5), None);
-    assert_eq!(rt; pile.is_muted(0), Some(true));
-    assert_eq!(rt; pile.is_muted(3), Some(false));
-    assert_eq!(rt; pile.is_muted(4), Some(true));
-    assert_eq!(rt; pile.is_muted(5), None);
+    places_are(&rt, &pile, &[0, 1, 2, 1, 1]);
+    pins_are(&rt, &pile, 2, &[1, 2, 1]);
+    nets_are(
+        &rt,
+        &pile,
+        &[(0, true), (2, false), (2, false), (4, false), (0, true)],
+    );
 }

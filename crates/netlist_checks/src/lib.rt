@@ -2,6 +2,8 @@
 #![tactic(auto)]
 
 #[cfg(test)]
+mod asked;
+#[cfg(test)]
 mod bottom_tests;
 #[cfg(test)]
 mod layer_tests;

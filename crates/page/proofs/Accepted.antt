@@ -1,31 +1,19 @@
 -- What an accepted page's fields and tables are known to say.
-use Rattle.std.proofs.Common.{◌≡◌, ℕ, zero, suc, ◌<◌, ◌≤◌, Bool, true, false, not, eqb, ltb, List, [], ◌∷◌, ◌++◌, length, get_or, None, sym, refl, ap, ◌∙◌, subst, inl, inr, arith}
+use Rattle.std.proofs.Common.{◌≡◌, ℕ, zero, suc, ◌<◌, ◌≤◌, not, eqb, ltb, List, [], ◌∷◌, ◌++◌, length, get_or, None, sym, ap, ◌∙◌, subst, inl, inr, arith}
 use Rattle.std.proofs.lemmas.List.{append_assoc, append-nil, get_or_append_left, get_or_push}
-use Rattle.std.proofs.lemmas.Bool.{cases_lt, or_parts, ltb-false, ltb-true, eqb-false}
+use Rattle.std.proofs.lemmas.Bool.{cases_lt, ltb-false}
+use Rattle.std.specs.Option.{option_or}
+use Rattle.std.specs.Bool.{then_some}
 use Rattle.refusal.specs.declared.Place.TheVariants.{Bit}
-use Rattle.refusal.specs.declared.Fault.TheVariants.{OtherKind, TooManyModules, TooManyNets, TooFewPins, NoSuchModule, RepeatedPin}
-use Rattle.refusal.specs.Checks.{or_else, fault_if, first_fault}
-use Rattle.refusal.proofs.CheckLaws.{or_else_none, fault_if_none, none_at}
-use Rattle.page.specs.Layout.{kind_field, modules_field, nets_field, pin, pin_bit, pin_count, price_bit, net_bit, net_pins, pins_table, starts_table}
-use Rattle.page.specs.Faults.{ends, among, pin_fault, net_fault, nets_fault, header_fault, page_fault}
+use Rattle.refusal.specs.declared.Fault.TheVariants.{OtherKind, TooManyModules, TooManyNets, TooFewPins}
+use Rattle.refusal.specs.Checks.{first_fault}
+use Rattle.refusal.proofs.CheckLaws.{option_or_none, then_some_none, none_at}
+use Rattle.page.specs.Layout.{kind_field, modules_field, nets_field, pin, pin_count, price_bit, net_bit, net_pins, pins_table, starts_table}
+use Rattle.page.specs.Faults.{ends, pin_fault, net_fault, nets_fault, header_fault, page_fault}
+use Rattle.page.proofs.PinLaws.{passed}
 use Rattle.page.proofs.TableLaws.{length_net_pins, length_starts}
 
--- not a test that is false: the test holds
-open_not : (b : Bool) → not b ≡ false → b ≡ true
-open_not true e = refl
-open_not false e = sym e
-
 module _ (bytes : List ℕ) where
-  among_none_at : (at v n e : ℕ) → among bytes at v n ≡ false → e < n → eqb (pin bytes at e) v ≡ false
-  unfolding among
-  among_none_at at v zero e h l = absurd (omega arith)
-  among_none_at at v (suc n) e h l =
-      let both = or_parts (among bytes at v n) (eqb (pin bytes at n) v) h in
-      elim (cases_lt e n) [
-        | inl k ↦ among_none_at at v n e both.0 k
-        | inr k ↦ let s : e ≡ n = omega arith in subst (λ (x : ℕ). eqb (pin bytes at x) v ≡ false) (sym s) both.1
-      ]
-
   -- the pins of a net by their positions
   pub net_pin_at : (at n i : ℕ) → i < n → get_or (net_pins bytes at n) i 0 ≡ pin bytes at i
   unfolding net_pins
@@ -75,56 +63,52 @@ module _ (bytes : List ℕ) where
   module _ (kind : ℕ) (fine : page_fault bytes kind ≡ None) where
     headed : header_fault bytes kind ≡ None
     unfolding page_fault
-    headed = (or_else_none (header_fault bytes kind) _ fine).0
+    headed = (option_or_none (header_fault bytes kind) _ fine).0
 
     netted : nets_fault bytes (modules_field bytes) (nets_field bytes) ≡ None
     unfolding page_fault
-    netted = (or_else_none (nets_fault bytes (modules_field bytes) (nets_field bytes)) _ (or_else_none (header_fault bytes kind) _ fine).1).0
+    netted = (option_or_none (nets_fault bytes (modules_field bytes) (nets_field bytes)) _ (option_or_none (header_fault bytes kind) _ fine).1).0
 
     -- the header's fields, the last first
     counts_fine :
-        (fault_if (ltb 64 (modules_field bytes)) (TooManyModules (Bit 4)) ≡ None)
-        × (or_else (ends bytes 11 11) (fault_if (ltb 1024 (nets_field bytes)) (TooManyNets (Bit 11))) ≡ None)
+        (then_some (ltb 64 (modules_field bytes)) (TooManyModules (Bit 4)) ≡ None)
+        × (option_or (ends bytes 11 11) (then_some (ltb 1024 (nets_field bytes)) (TooManyNets (Bit 11))) ≡ None)
     counts_fine =
-        let a = or_else_none (ends bytes 0 4) _ headed in
-        let b = or_else_none (fault_if (not (eqb (kind_field bytes) kind)) (OtherKind 0)) _ a.1 in
-        let c = or_else_none (ends bytes 4 7) _ b.1 in
-        or_else_none (fault_if (ltb 64 (modules_field bytes)) (TooManyModules (Bit 4))) _ c.1
+        let a = option_or_none (ends bytes 0 4) _ headed in
+        let b = option_or_none (then_some (not (eqb (kind_field bytes) kind)) (OtherKind 0)) _ a.1 in
+        let c = option_or_none (ends bytes 4 7) _ b.1 in
+        option_or_none (then_some (ltb 64 (modules_field bytes)) (TooManyModules (Bit 4))) _ c.1
 
     pub few_modules : modules_field bytes ≤ 64
-    few_modules = ltb-false 64 (modules_field bytes) (fault_if_none _ (TooManyModules (Bit 4)) counts_fine.0)
+    few_modules = ltb-false 64 (modules_field bytes) (then_some_none _ (TooManyModules (Bit 4)) counts_fine.0)
 
     pub few_nets : nets_field bytes ≤ 1024
-    few_nets = ltb-false 1024 (nets_field bytes) (fault_if_none _ (TooManyNets (Bit 11)) (or_else_none (ends bytes 11 11) _ counts_fine.1).1)
+    few_nets = ltb-false 1024 (nets_field bytes) (then_some_none _ (TooManyNets (Bit 11)) (option_or_none (ends bytes 11 11) _ counts_fine.1).1)
 
     module _ (i : ℕ) (h : i < nets_field bytes) where
       net_fine : net_fault bytes (modules_field bytes) (net_bit bytes i) ≡ None
       net_fine = none_at (λ j. net_fault bytes (modules_field bytes) (net_bit bytes j)) i (nets_field bytes) netted h
 
-      counted_fine : (fault_if (ltb (pin_count bytes (net_bit bytes i)) 2) (TooFewPins (Bit (net_bit bytes i))) ≡ None)
-          × (or_else (first_fault (pin_fault bytes (modules_field bytes) (net_bit bytes i)) (pin_count bytes (net_bit bytes i))) (ends bytes (price_bit bytes (net_bit bytes i)) 32) ≡ None)
+      counted_fine : (then_some (ltb (pin_count bytes (net_bit bytes i)) 2) (TooFewPins (Bit (net_bit bytes i))) ≡ None)
+          × (option_or (first_fault (pin_fault bytes (modules_field bytes) (net_bit bytes i)) (pin_count bytes (net_bit bytes i))) (ends bytes (price_bit bytes (net_bit bytes i)) 32) ≡ None)
       unfolding net_fault
       counted_fine =
-          or_else_none (fault_if (ltb (pin_count bytes (net_bit bytes i)) 2) (TooFewPins (Bit (net_bit bytes i)))) _ (or_else_none (ends bytes (net_bit bytes i) 7) _ net_fine).1
+          option_or_none (then_some (ltb (pin_count bytes (net_bit bytes i)) 2) (TooFewPins (Bit (net_bit bytes i)))) _ (option_or_none (ends bytes (net_bit bytes i) 7) _ net_fine).1
 
       pub two_pins : 2 ≤ pin_count bytes (net_bit bytes i)
-      two_pins = ltb-false (pin_count bytes (net_bit bytes i)) 2 (fault_if_none _ (TooFewPins (Bit (net_bit bytes i))) counted_fine.0)
+      two_pins = ltb-false (pin_count bytes (net_bit bytes i)) 2 (then_some_none _ (TooFewPins (Bit (net_bit bytes i))) counted_fine.0)
 
       pins_fine : first_fault (pin_fault bytes (modules_field bytes) (net_bit bytes i)) (pin_count bytes (net_bit bytes i)) ≡ None
-      pins_fine = (or_else_none (first_fault (pin_fault bytes (modules_field bytes) (net_bit bytes i)) (pin_count bytes (net_bit bytes i))) _ counted_fine.1).0
+      pins_fine = (option_or_none (first_fault (pin_fault bytes (modules_field bytes) (net_bit bytes i)) (pin_count bytes (net_bit bytes i))) _ counted_fine.1).0
 
       module _ (k : ℕ) (l : k < pin_count bytes (net_bit bytes i)) where
-        pin_fine : (fault_if (not (ltb (pin bytes (net_bit bytes i) k) (modules_field bytes))) (NoSuchModule (Bit (pin_bit (net_bit bytes i) k))) ≡ None)
-            × (fault_if (among bytes (net_bit bytes i) (pin bytes (net_bit bytes i) k) k) (RepeatedPin (Bit (pin_bit (net_bit bytes i) k))) ≡ None)
-        unfolding pin_fault
+        pin_fine : (pin bytes (net_bit bytes i) k < modules_field bytes) × ((e : ℕ) → e < k → pin bytes (net_bit bytes i) e ≡ pin bytes (net_bit bytes i) k → ⊥)
         pin_fine =
-            or_else_none (fault_if (not (ltb (pin bytes (net_bit bytes i) k) (modules_field bytes))) (NoSuchModule (Bit (pin_bit (net_bit bytes i) k)))) _
-            (or_else_none (ends bytes (pin_bit (net_bit bytes i) k) 6) _
-            (none_at (pin_fault bytes (modules_field bytes) (net_bit bytes i)) k (pin_count bytes (net_bit bytes i)) pins_fine l)).1
+            passed bytes (net_bit bytes i) (modules_field bytes) k
+            (none_at (pin_fault bytes (modules_field bytes) (net_bit bytes i)) k (pin_count bytes (net_bit bytes i)) pins_fine l)
 
         pub pin_there : pin bytes (net_bit bytes i) k < modules_field bytes
-        pin_there = ltb-true (pin bytes (net_bit bytes i) k) (modules_field bytes) (open_not _ (fault_if_none _ (NoSuchModule (Bit (pin_bit (net_bit bytes i) k))) pin_fine.0))
+        pin_there = pin_fine.0
 
         pub pin_new : (e : ℕ) → e < k → pin bytes (net_bit bytes i) e ≡ pin bytes (net_bit bytes i) k → ⊥
-        pin_new e m =
-            eqb-false _ _ (among_none_at (net_bit bytes i) (pin bytes (net_bit bytes i) k) k e (fault_if_none _ (RepeatedPin (Bit (pin_bit (net_bit bytes i) k))) pin_fine.1) m)
+        pin_new = pin_fine.1

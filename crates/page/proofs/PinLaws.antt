@@ -1,37 +1,23 @@
 -- Laws of pins and nets: how the checks of one pin or one net come out.
-use Rattle.std.proofs.Common.{◌≡◌, ℕ, zero, suc, ◌<◌, ◌≤◌, Bool, true, false, ◌||◌, eqb, List, length, get_or, Some, None, sym, refl, ◌∙◌, zero-add, inl, inr, arith}
-use Rattle.std.specs.Bool.{MatchBool}
+use Rattle.std.proofs.Common.{◌≡◌, ℕ, ◌<◌, ◌≤◌, Bool, true, false, not, eqb, ltb, List, length, get_or, Some, None, sym, ◌∙◌, zero-add, arith}
+use Rattle.std.specs.Bool.{MatchBool, then_some}
 use Rattle.std.specs.List.{range_with_len, AllWithin, HoldsAt}
 use Rattle.std.proofs.lemmas.List.FromFn.{length-range_with_len, get_or-range_with_len}
-use Rattle.std.proofs.lemmas.Bool.{cases_lt, lt-ltb, le-ltb, eq-eqb, ne_eqb}
+use Rattle.std.proofs.lemmas.Bool.{lt-ltb, le-ltb, ltb-true, eq-eqb, ne_eqb, eqb-false, not-false}
 use Rattle.refusal.specs.declared.Place.TheVariants.{Bit}
 use Rattle.refusal.specs.declared.Fault.{Fault}
 use Rattle.refusal.specs.declared.Fault.TheVariants.{NoSuchModule, RepeatedPin, TooFewPins}
 use Rattle.page.specs.Layout.{pin, pin_bit, pin_count, price_bit}
 use Rattle.refusal.specs.Checks.{first_fault}
+use Rattle.refusal.proofs.CheckLaws.{some_of_none, some_at, not_some, option_or_none, then_some_none}
 use Rattle.page.specs.Faults.{among, ends, pin_fault, net_fault}
-
-or_true : (b : _) → (b || true) ≡ true
-or_true true = refl
-or_true false = refl
 
 module _ (bytes : List ℕ) (at : ℕ) where
   none_among : (v n : ℕ) → ((k : ℕ) → k < n → pin bytes at k ≡ v → ⊥) → among bytes at v n ≡ false
-  unfolding among
-  none_among v zero f = refl
-  none_among v (suc n) f = rw (none_among v n (λ k h. f k (omega arith)), ne_eqb (pin bytes at n) v (f n (omega arith)))
+  none_among v n f = some_of_none (λ k. eqb (pin bytes at k) v) n (λ k h. ne_eqb (pin bytes at k) v (f k h))
 
   among_at : (v n m : ℕ) → pin bytes at n ≡ v → n < m → among bytes at v m ≡ true
-  unfolding among
-  among_at v n zero e l = absurd (omega arith)
-  among_at v n (suc m) e l =
-      elim (cases_lt n m) [
-        | inl h ↦ rw (among_at v n m e h)
-        | inr h ↦
-            let s : n ≡ m = omega arith in
-            let q : eqb (pin bytes at m) v ≡ true = rw s at (eq-eqb (pin bytes at n) v e) in
-            rw q (or_true (among bytes at v m))
-      ]
+  among_at v n m e l = some_at (λ k. eqb (pin bytes at k) v) n m (eq-eqb (pin bytes at n) v e) l
 
   -- what a search over the first pins finds
   pub among_searched : (v n : ℕ) (r : Bool)
@@ -50,6 +36,16 @@ module _ (bytes : List ℕ) (at : ℕ) where
     pub pin_passes : (k : ℕ) → ends bytes (pin_bit at k) 6 ≡ None → pin bytes at k < modules → among bytes at (pin bytes at k) k ≡ false → pin_fault bytes modules at k ≡ None
     unfolding pin_fault
     pin_passes k p h q = rw (p, lt-ltb (pin bytes at k) modules h, q)
+
+    -- A pin that passes is one of the modules, and none of those before it.
+    pub passed : (k : ℕ) → pin_fault bytes modules at k ≡ None → (pin bytes at k < modules) × ((e : ℕ) → e < k → pin bytes at e ≡ pin bytes at k → ⊥)
+    unfolding pin_fault
+    passed k p =
+        let whole = option_or_none (ends bytes (pin_bit at k) 6) _ p in
+        let there = option_or_none (then_some (not (ltb (pin bytes at k) modules)) (NoSuchModule (Bit (pin_bit at k)))) _ whole.1 in (
+          ltb-true (pin bytes at k) modules (not-false _ (then_some_none _ (NoSuchModule (Bit (pin_bit at k))) there.0)),
+          λ e before. eqb-false _ _ (not_some (λ j. eqb (pin bytes at j) (pin bytes at k)) e k (then_some_none _ (RepeatedPin (Bit (pin_bit at k))) there.1) before),
+        )
 
     pub pin_ends : (k : ℕ) (e : Fault) → ends bytes (pin_bit at k) 6 ≡ Some e → pin_fault bytes modules at k ≡ Some e
     unfolding pin_fault

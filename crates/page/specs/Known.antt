@@ -1,5 +1,7 @@
 -- The price kinds that a page can name.
 use Rattle.std.specs.Prelude.{◌≡◌, ℕ, Bool, false, not, ◌||◌, List, Option, Result, MatchResult, ◌==◌}
+use Rattle.std.specs.Option.{option_or}
+use Rattle.std.specs.Bool.{then_some}
 use Rattle.refusal.specs.declared.Fault.{Fault}
 use Rattle.refusal.specs.declared.Fault.TheVariants.{OtherKind}
 use Rattle.price.specs.Wires as first
@@ -9,7 +11,6 @@ use Rattle.page.specs.declared.known.KnownKind.{KnownKind}
 use Rattle.page.specs.declared.known.UnknownKind.{UnknownKind}
 use Rattle.page.specs.declared.known.KnownKind.TheVariants.{Wires, TimersFirst, Widest}
 use Rattle.page.specs.Layout.{kind_field}
-use Rattle.refusal.specs.Checks.{or_else, fault_if}
 use Rattle.page.specs.Faults.{ends}
 
 abbrev pub known_number : KnownKind → ℕ
@@ -30,4 +31,4 @@ Refuses e f = f ≡ OtherKind 0
 
 -- the page ends inside its kind, or names no known one
 abbrev pub known_fault : List ℕ → Option Fault
-known_fault bytes = or_else (ends bytes 0 4) (fault_if (not (is_known (kind_field bytes))) (OtherKind 0))
+known_fault bytes = option_or (ends bytes 0 4) (then_some (not (is_known (kind_field bytes))) (OtherKind 0))

@@ -33,10 +33,6 @@ abbrev pub Stands : Line → Type 0
 Stands (unpacked bytes modules starts pins prices) = Unpacked bytes modules starts pins prices
 Stands (refused bytes n bit) = Refused bytes n bit
 
-abbrev pub AllStand : List Line → Type 0
-AllStand [] = Unit {0}
-AllStand (line ∷ lines) = Stands line × AllStand lines
-
 abbrev pub fifteen_bytes : List ℕ
 fifteen_bytes = 0x10 ∷ 0x60 ∷ 0x08 ∷ 0x10 ∷ 0x00 ∷ 0x80 ∷ 0x00 ∷ 0x00 ∷ 0x02 ∷ 0x82 ∷ 0x04 ∷ 0x20 ∷ 0x00 ∷ 0x00 ∷ 0x00 ∷ []
 

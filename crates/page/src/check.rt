@@ -7,6 +7,7 @@ ghost use Rattle.page.specs.Unpacking.{Counted, Holds};
 use crate::bits::{field, first_set};
 use crate::counts::Counts;
 use crate::net::Net;
+use netlist::limits::{MODULES_MOST, NETS_MOST};
 use price::Price;
 use refusal::{Fault, Place};
 
@@ -35,17 +36,14 @@ fn check_header<P: Price>(bytes: &[u8]) -> Result<Header, Fault>
         return Err(Fault::OtherKind { bit: 0 });
     }
     let modules = field(bytes, 4, 7)?;
-    if modules > 64 {
+    if modules as usize > MODULES_MOST {
         return Err(Fault::TooManyModules { at: Place::Bit(4) });
     }
-    let nets = field(bytes, 11, 11)?;
-    if nets > 1024 {
+    let nets = field(bytes, 11, 11)? as usize;
+    if nets > NETS_MOST {
         return Err(Fault::TooManyNets { at: Place::Bit(11) });
     }
-    Ok(Header {
-        modules,
-        nets: nets as usize,
-    })
+    Ok(Header { modules, nets })
 }
 
 // Looks at the nets in their order.

@@ -1,7 +1,8 @@
 //! The worked pages, as a theorem of the definitions that `unpack_page` promises by.
-ghost use Rattle.page.specs.Worked.{AllStand, worked_pages};
+ghost use Rattle.std.specs.List.{AllByRecursion};
+ghost use Rattle.page.specs.Worked.{Stands, worked_pages};
 
 /// Every worked page unpacks, or is refused, as its line says.
 pub fn worked_pages_stand()
-    ensures { AllStand worked_pages }
+    ensures { AllByRecursion Stands worked_pages }
 {}

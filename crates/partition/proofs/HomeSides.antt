@@ -94,7 +94,8 @@ module _ {P : Type 0} (k : Kind P) (l : Laws k) (m : Meaning P) (s : Sound m) (c
       (record {
         split = split;
         by_rounds = out.1;
-        found = out.2;
+        first_on_a = out.2.first_on_a;
+        first_of_lowest = out.2.first_of_lowest;
         answer = record { sides = word; price = p };
         answered = refl;
         sides = word_is (homes m) split.side s.few_homes word fits bits;

@@ -4,11 +4,10 @@ use Rattle.std.proofs.lemmas.Bool.{le-ltb}
 use Rattle.price.specs.Kind.{Kind, Laws}
 use Rattle.netlist.specs.Nets.{Net}
 use Rattle.netlist.specs.Meaning.{Meaning, Sound, modules, own_nets}
-use Rattle.cut.specs.Cuts.{split_price, alone}
-use Rattle.cut.specs.Orders.{IsOrder, order, ending}
+use Rattle.cut.specs.Orders.{IsOrder, order}
 use Rattle.cut.proofs.OrderFound.{order_is, order_is_the_only_one_lem}
 use Rattle.cut.proofs.LastTwo.{order_last_parted}
-use Rattle.partition.specs.Orders.{order_fault, OrderCall, LastTwoParted}
+use Rattle.partition.specs.Orders.{order_fault, last_price, OrderCall, LastTwoParted}
 use Rattle.grouping.proofs.OwnNets.{own_there}
 
 pub last_two_parted : {P : Type 0} (k : Kind P) → Laws k → (m : Meaning P) → Sound m → LastTwoParted k m
@@ -28,7 +27,7 @@ accepted m cells bytes h i j = rw (le-ltb cells m h, le-ltb bytes m i, le-ltb m 
 -- by the netlist's own nets, the order and the zeros before what stays
 pub ordered : {P : Type 0} (k : Kind P) → Laws k → (m : Meaning P) (cells zeros : List P) (bytes list : List ℕ) (nets : List (Net P)) (n count : ℕ) (p : P)
     → nets ≡ own_nets k m → n ≡ modules m → count ≡ n → n ≤ length cells → n ≤ length bytes → 2 ≤ n
-    → list ≡ order k nets count → zeros ≡ replicate count k.zero → p ≡ split_price k (alone (ending list).last) nets
+    → list ≡ order k nets count → zeros ≡ replicate count k.zero → p ≡ last_price k nets list
     → OrderCall k m cells (zeros ++ drop n cells) bytes (list ++ drop n bytes) (Ok p)
 ordered k l m cells zeros bytes list nets n count p e d c h i j written zeroed priced =
     let same : list ≡ order k (own_nets k m) (modules m) = written ∙ ap₂ (λ xs (y : ℕ). order k xs y) e (c ∙ d) in
@@ -38,5 +37,5 @@ ordered k l m cells zeros bytes list nets n count p e d c h i j written zeroed p
       by_rule = subst (IsOrder k (own_nets k m) (modules m)) (sym same) (order_is k l (own_nets k m) (modules m));
       written = ap (λ (y : ℕ). list ++ drop y bytes) d;
       zeroed = ap (λ xs. xs ++ drop n cells) zeroed ∙ ap₂ (λ (x : ℕ) (y : ℕ). replicate x k.zero ++ drop y cells) (c ∙ d) d;
-      answered = ap Ok (priced ∙ ap (λ xs. split_price k (alone (ending list).last) xs) e);
+      answered = ap Ok (priced ∙ ap (λ xs. last_price k xs list) e);
     })

@@ -1,5 +1,5 @@
 -- What a round notes and leaves, and what the rounds' loop keeps.
-use Rattle.std.proofs.Common.{◌≡◌, ℕ, suc, ◌-◌, ◌<◌, ◌≤◌, Bool, true, false, cond, List, [], ◌∷◌, length, get_or, Some, sym, refl, ap, ◌∙◌, subst, ap₂, ⊎_elim, arith}
+use Rattle.std.proofs.Common.{◌≡◌, ℕ, suc, ◌-◌, ◌<◌, ◌≤◌, Bool, true, false, cond, List, [], ◌∷◌, length, get_or, drop, Some, sym, refl, ap, ◌∙◌, subst, ap₂, ⊎_elim, arith}
 use native.Mathlib.Nat.{suc_inj}
 use lib.ListN.{length-map}
 use Rattle.std.proofs.lemmas.List.{get_or_past}
@@ -9,7 +9,7 @@ use Rattle.moduleset.specs.Words.{has as is_in}
 use Rattle.price.specs.Kind.{Kind, Laws}
 use Rattle.netlist.specs.Nets.{Net}
 use Rattle.netlist.specs.Places.{place, placed}
-use Rattle.netlist.specs.Meaning.{Meaning, own_nets}
+use Rattle.netlist.specs.Meaning.{Meaning, Sound, modules, own_nets}
 use Rattle.netlist.specs.Changes.{united_place, united}
 use Rattle.netlist.proofs.Numbering.{place_map}
 use Rattle.netlist.proofs.UnitedPlaces.{united_below}
@@ -22,8 +22,12 @@ use Rattle.cut.proofs.OrderFound.{order_is, length_order}
 use Rattle.cut.proofs.OrderSteps.{last_at}
 use Rattle.cut.proofs.LastTwo.{TwoApart, order_two_apart}
 use Rattle.grouping.specs.Masks.{grouped}
-use Rattle.partition.specs.Pulls.{cleared}
-use Rattle.partition.specs.Rounds.{by_set, SameSplit, GroupRow, EachAlone, round_noted, round_row, FoundOver}
+use Rattle.grouping.proofs.OwnNets.{modules_few}
+use Rattle.partition.specs.declared.groups.Groups.{Groups}
+use Rattle.partition.specs.declared.round.RoundEnd.{RoundEnd}
+use Rattle.partition.specs.Orders.{last_price}
+use Rattle.partition.specs.Rounds.{by_set, SameSplit, GroupRow, NetGroups, EachAlone, round_noted, round_row, RoundMade, FoundOver}
+use Rattle.partition.proofs.Cells.{cleared_later}
 
 next_to_last_in : (before : List ℕ) (u v : ℕ) (rest : List ℕ) → (ending_after before u v rest).next_to_last ≡ get_or (u ∷ v ∷ rest) (length rest) 0
 next_to_last_in before u v [] = refl
@@ -51,11 +55,11 @@ module _ {P : Type 0} (k : Kind P) (l : Laws k) (m : Meaning P) (row bytes : Lis
   next_to_last_is : get_or bytes (length bytes - 2) 0 ≡ (counted_ending k (own_nets k m) count row).next_to_last
   next_to_last_is = sym (next_to_last_at (length bytes - 2) bytes (omega (arith, long))) ∙ ap (λ z. z.next_to_last) ending_is
 
-  price_is : split_price k (alone (ending bytes).last) (grouped k m row) ≡ (round_noted k (own_nets k m) count row).price
+  price_is : last_price k (grouped k m row) bytes ≡ (round_noted k (own_nets k m) count row).price
   unfolding grouped
   price_is = ap (λ z. split_price k (alone z.last) (placed row (own_nets k m))) ending_is
 
-  pub noted_is : (set : ℕ) (p : P) → p ≡ split_price k (alone (ending bytes).last) (grouped k m row)
+  pub noted_is : (set : ℕ) (p : P) → p ≡ last_price k (grouped k m row) bytes
       → ((v : ℕ) → v < 64 → is_in set v ≡ alone (get_or bytes (length bytes - 1) 0) (place row v)) → SameSplit (by_set set p) (round_noted k (own_nets k m) count row)
   noted_is set p priced sides = record {
     same_price = priced ∙ price_is;
@@ -65,18 +69,21 @@ module _ {P : Type 0} (k : Kind P) (l : Laws k) (m : Meaning P) (row bytes : Lis
   pub next_is : (next : List ℕ) → next ≡ united (get_or bytes (length bytes - 2) 0) (get_or bytes (length bytes - 1) 0) row → next ≡ round_row k (own_nets k m) count row
   next_is next e = e ∙ ap₂ (λ (x : ℕ) (y : ℕ). united x y row) next_to_last_is last_is
 
--- what a round over g groups leaves: what it notes, the next row and the cells
-abbrev pub Ended : {P : Type 0} → Kind P → List (Net P) → ℕ → List ℕ → Split P → List ℕ → List P → List P → Type 0
-Ended k nets g row noted next cells cells' = SameSplit noted (round_noted k nets g row) × (next ≡ round_row k nets g row) × (cells' ≡ cleared k g cells)
-
--- what holds of the round that is made holds of what it was asked to be
-pub as_asked : {N G : Type 0} (T : N → ℕ → G → Type 0) {n n' : N} {g g' : ℕ} {groups groups' : G} → n ≡ n' → g ≡ g' → groups ≡ groups' → T n g groups → T n' g' groups'
-as_asked T {n' = n'} {g = g} {g' = g'} {groups = groups} e f h t = subst (T n' g') h (subst (λ (x : ℕ). T n' x groups) f (subst (λ x. T x g groups) e t))
+-- a round made of a netlist, groups and their count, by those that it was asked to be made of
+pub as_asked : {N P : Type 0} {k : Kind P} (means : N → Meaning P) {n n' : N} {g g' : ℕ} {groups groups' : Groups} {cells cells' : List P} {end : RoundEnd P}
+    → n ≡ n' → g ≡ g' → groups ≡ groups' → RoundMade k (means n) g groups.row cells cells' end → RoundMade k (means n') g' groups'.row cells cells' end
+as_asked {k = k} means {n' = n'} {g = g} {g' = g'} {groups = groups} {cells = cells} {cells' = cells'} {end = end} e f h made =
+    subst (λ x. RoundMade k (means n') g' x.row cells cells' end) h
+    (subst (λ (x : ℕ). RoundMade k (means n') x groups.row cells cells' end) f (subst (λ x. RoundMade k (means x) g groups.row cells cells' end) e made))
 
 -- each module alone is a group of its own
-pub alone_row : (m count : ℕ) (row : List ℕ) → m ≤ 64 → count ≡ m → length row ≡ 64 → ((v : ℕ) → place row v < 64) → ((v : ℕ) → v < 64 → place row v ≡ v) → GroupRow m count row
-alone_row m count row few e long small own =
-    record { long = long; small = small; below = λ v h. subst (λ (x : ℕ). x < count) (sym (own v (omega arith))) (omega arith) }
+pub alone_row : (m count : ℕ) (row : List ℕ) → m ≤ 64 → count ≡ m → length row ≡ 64 → ((v : ℕ) → v < 64 → place row v ≡ v) → GroupRow m count row
+alone_row m count row few e long own =
+    record {
+      long = long;
+      small = λ v. ⊎_elim (λ h. omega (arith, own v h)) (λ h. omega (arith, get_or_past row v 0 (omega arith))) (cases_lt v 64);
+      below = λ v h. subst (λ (x : ℕ). x < count) (sym (own v (omega arith))) (omega arith);
+    }
 
 united_small : (a b p : ℕ) → a < 64 → b < 64 → p < 64 → united_place a b p < 64
 united_small a b p h i j = grind (arith, nat_tests)
@@ -102,6 +109,17 @@ row_after k l nets m g left row next two few mm e r f =
           subst (λ (x : ℕ). x < left) (sym (at v (omega arith)))
           (united_below a b left (place row v) (omega (arith, d.next_there)) (omega (arith, d.last_there)) d.differ (omega (arith, r.below v h)));
     })
+
+-- What a round over one group more leaves: the groups, their nets, and the cells past those of all modules.
+pub round_leaves : {P : Type 0} (k : Kind P) → Laws k → (m : Meaning P) → Sound m → (count g : ℕ) (row : List ℕ) (cells cells' start : List P) (end : RoundEnd P)
+    → count ≡ modules m → 1 < g → g ≤ count → count ≤ length cells → GroupRow (modules m) g row → drop count cells ≡ drop count start → RoundMade k m g row cells cells' end
+    → GroupRow (modules m) (g - 1) end.groups.row × NetGroups k m end.groups × (drop count cells' ≡ drop count start)
+round_leaves k l m s count g row cells cells' start end all two inside room r later made =
+    let few : modules m ≤ 64 = modules_few m s in (
+      row_after k l (own_nets k m) (modules m) g (g - 1) row end.groups.row two (omega arith) few (omega arith) r made.united,
+      made.nets,
+      cleared_later k g count cells cells' inside (omega arith) made.zeroed ∙ later,
+    )
 
 module _ {P : Type 0} (k : Kind P) (nets : List (Net P)) where
   -- The best so far is that of the rounds done, and with those to come, over fewer than g groups, it is the split that all rounds find.

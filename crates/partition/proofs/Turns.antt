@@ -7,11 +7,12 @@ use Rattle.std.proofs.lemmas.Bool.{both_ways, or_parts, lt-leb, leb-false}
 use Rattle.moduleset.specs.Words.{has as is_in}
 use Rattle.price.specs.Kind.{Kind, Laws}
 use Rattle.netlist.specs.Nets.{Net, OnPins}
-use Rattle.cut.specs.Cuts.{has, pull, split_price, alone}
-use Rattle.cut.specs.Orders.{order, ending}
+use Rattle.cut.specs.Cuts.{has, pull}
+use Rattle.cut.specs.Orders.{order}
 use Rattle.cut.proofs.OrderFound.{length_order}
 use Rattle.cut.proofs.OrderSteps.{AlikeBelow, pull_like, GreatestPull, greatest_is_next, next_waits, last_pull_price}
 use Rattle.grouping.specs.Masks.{AlsoHas}
+use Rattle.partition.specs.Orders.{last_price}
 use Rattle.partition.specs.Pulls.{WaitBelow, TakenOf, pulled, Greatest}
 use Rattle.grouping.proofs.PinSets.{has_next}
 
@@ -100,7 +101,7 @@ module _ {P : Type 0} (k : Kind P) (l : Laws k) (nets : List (Net P)) where
       sym (take_all m bytes (omega arith)) ∙ a.front ∙ take_all m (order k nets m) (omega (arith, length_order k l nets m))
 
   pub turn_price : (m taken : ℕ) (price : P) (bytes : List ℕ) → 1 < m → OnPins (AllByRecursion (λ pin. pin < m)) nets → Turn k nets m m taken price bytes
-      → price ≡ split_price k (alone (ending (order k nets m)).last) nets
+      → price ≡ last_price k nets (order k nets m)
   turn_price zero taken price bytes h there a = absurd (omega arith)
   turn_price (suc zero) taken price bytes h there a = absurd (omega arith)
   turn_price (suc (suc n)) taken price bytes h there a =

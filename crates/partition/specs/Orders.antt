@@ -3,6 +3,7 @@ use Rattle.std.specs.Prelude.{◌≡◌, ℕ, ◌<◌, cond, List, ◌++◌, len
 use Rattle.refusal.specs.declared.Fault.{Fault}
 use Rattle.refusal.specs.declared.Fault.TheVariants.{TooShort, TooFewGroups}
 use Rattle.price.specs.Kind.{Kind}
+use Rattle.netlist.specs.Nets.{Net}
 use Rattle.netlist.specs.Meaning.{Meaning, modules, own_nets}
 use Rattle.cut.specs.Cuts.{split_price, alone}
 use Rattle.cut.specs.Orders.{IsOrder, ending}
@@ -17,13 +18,17 @@ order_fault modules cells bytes = cond (nat_lt cells modules) (Some (TooShort 1)
 abbrev pub IsOrderOf : {P : Type 0} → Kind P → Meaning P → List ℕ → Type 0
 IsOrderOf k m list = IsOrder k (own_nets k m) (modules m) list
 
+-- the price of parting off the last of a list alone
+abbrev pub last_price : {P : Type 0} → Kind P → List (Net P) → List ℕ → P
+last_price k nets list = split_price k (alone (ending list).last) nets
+
 -- An accepted order: the first bytes are an order of the modules, as many first cells are zero, and the answer is the price of parting off its last alone.
 pub record Ordered {P : Type 0} (k : Kind P) (m : Meaning P) (cells cells' : List P) (bytes bytes' : List ℕ) (r : Result P Fault) : Type 0 where
   pub list : List ℕ
   pub by_rule : IsOrderOf k m list
   pub written : bytes' ≡ list ++ drop (modules m) bytes
   pub zeroed : cells' ≡ cleared k (modules m) cells
-  pub answered : r ≡ Ok (split_price k (alone (ending list).last) (own_nets k m))
+  pub answered : r ≡ Ok (last_price k (own_nets k m) list)
 
 -- A refused order leaves both rows as they were.
 pub record OrderRefused {P : Type 0} (fault : Fault) (cells cells' : List P) (bytes bytes' : List ℕ) (r : Result P Fault) : Type 0 where

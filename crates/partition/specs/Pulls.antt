@@ -37,6 +37,13 @@ key_in k cells v = slice_index_or cells v k.zero
 abbrev pub KeysArePulls : {P : Type 0} → Kind P → List (Net P) → ℕ → List P → Type 0
 KeysArePulls k nets taken cells = (v : ℕ) → v < 64 → is_in taken v ≡ false → key_in k cells v ≡ pulled k nets taken v
 
--- The answer is the waiting module of the greatest key, and is taken; where there is none, no module waits.
+abbrev pub NoneWaits : ℕ → Type 0
+NoneWaits taken = (v : ℕ) → v < 64 → is_in taken v ≡ true
+
+-- The answer is the waiting module of the greatest key; where there is none, no module waits.
+abbrev pub GreatestWaiting : {P : Type 0} → Kind P → (ℕ → P) → ℕ → Option ℕ → Type 0
+GreatestWaiting k key taken r = MatchOption r (NoneWaits taken) (Greatest k key taken 64)
+
+-- the same, and it is taken
 abbrev pub TakesGreatest : {P : Type 0} → Kind P → (ℕ → P) → ℕ → ℕ → Option ℕ → Type 0
-TakesGreatest k key taken taken' r = MatchOption r ((v : ℕ) → v < 64 → is_in taken v ≡ true) (λ v. Greatest k key taken 64 v × AlsoHas taken taken' v)
+TakesGreatest k key taken taken' r = MatchOption r (NoneWaits taken) (λ v. Greatest k key taken 64 v × AlsoHas taken taken' v)

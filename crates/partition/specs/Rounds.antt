@@ -1,10 +1,10 @@
 -- Rounds over a netlist's modules, with sets of modules as 64-bit words.
-use Rattle.std.specs.Prelude.{◌≡◌, ℕ, suc, ◌<◌, List, length, map, Some}
+use Rattle.std.specs.Prelude.{◌≡◌, ℕ, suc, ◌<◌, List, length, map, Some, Option}
 use Rattle.moduleset.specs.Words.{has as is_in}
 use Rattle.price.specs.Kind.{Kind}
 use Rattle.netlist.specs.Nets.{Net}
 use Rattle.netlist.specs.Places.{place}
-use Rattle.netlist.specs.Meaning.{Meaning}
+use Rattle.netlist.specs.Meaning.{Meaning, own_nets}
 use Rattle.netlist.specs.Changes.{united}
 use Rattle.cut.specs.Lawful.{Split}
 use Rattle.cut.specs.Rounds.{parting, cheapest_of}
@@ -12,6 +12,8 @@ use Rattle.cut.specs.ModuleRounds.{counted_ending, counted}
 use Rattle.grouping.specs.Masks.{grouped, MasksOf}
 use Rattle.partition.specs.declared.groups.Groups.{Groups}
 use Rattle.partition.specs.declared.round.Noted.{Noted}
+use Rattle.partition.specs.declared.round.RoundEnd.{RoundEnd}
+use Rattle.partition.specs.Pulls.{cleared, pulled, TakesGreatest}
 
 -- the split with a set of modules on side B
 abbrev pub by_set : {P : Type 0} → ℕ → P → Split P
@@ -47,6 +49,17 @@ round_noted k nets g row = parting k nets row (counted_ending k nets g row).last
 
 abbrev pub round_row : {P : Type 0} → Kind P → List (Net P) → ℕ → List ℕ → List ℕ
 round_row k nets g row = united (counted_ending k nets g row).next_to_last (counted_ending k nets g row).last row
+
+-- A round over the g groups of a row: it notes the split that parts off the last of their order, unites the last two, and leaves a zero cell for each group.
+pub record RoundMade {P : Type 0} (k : Kind P) (m : Meaning P) (g : ℕ) (row : List ℕ) (cells cells' : List P) (end : RoundEnd P) : Type 0 where
+  pub noted : SameSplit (by_noted end.noted) (round_noted k (own_nets k m) g row)
+  pub united : end.groups.row ≡ round_row k (own_nets k m) g row
+  pub nets : NetGroups k m end.groups
+  pub zeroed : cells' ≡ cleared k g cells
+
+-- The answer is the group most pulled by those taken, the lowest on equal pulls, and is taken; where there is none, no group waits.
+abbrev pub TakesMostPulled : {P : Type 0} → Kind P → Meaning P → List ℕ → ℕ → ℕ → Option ℕ → Type 0
+TakesMostPulled k m row taken taken' r = TakesGreatest k (pulled k (grouped k m row) taken) taken taken' r
 
 -- The split is the one that the rounds find from so many modules, each alone.
 pub record FoundOver {P : Type 0} (k : Kind P) (nets : List (Net P)) (count : ℕ) (split : Split P) : Type 0 where

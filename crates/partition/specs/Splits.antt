@@ -1,13 +1,13 @@
 -- What a call of `split` answers and leaves.
-use Rattle.std.specs.Prelude.{◌≡◌, ℕ, Bool, cond, List, length, Some, None, Ok, Err, Option, Result, nat_lt}
+use Rattle.std.specs.Prelude.{◌≡◌, ℕ, Bool, false, cond, List, length, Some, None, Ok, Err, Option, Result, nat_lt}
 use Rattle.refusal.specs.declared.Fault.{Fault}
 use Rattle.refusal.specs.declared.Fault.TheVariants.{TooShort, TooFewGroups}
 use Rattle.moduleset.specs.Words.{has as is_in}
 use Rattle.price.specs.Kind.{Kind}
 use Rattle.netlist.specs.Meaning.{Meaning, homes, modules}
 use Rattle.cut.specs.Lawful.{Split, LawfulFor, CheapestFor}
-use Rattle.cut.specs.Rounds.{split_of}
-use Rattle.cut.specs.SplitLaws.{FoundFor}
+use Rattle.cut.specs.Rounds.{noted_of, split_of}
+use Rattle.cut.specs.SplitLaws.{FirstOfLowest}
 use Rattle.cut.specs.SidesWord.{sides_word}
 use Rattle.cut.specs.declared.found.FoundSplit.{FoundSplit}
 use Rattle.partition.specs.Pulls.{cleared}
@@ -20,12 +20,13 @@ split_fault m cells = cond (nat_lt cells (homes m)) (Some (TooShort 1)) (cond (n
 abbrev pub told : {P : Type 0} → FoundSplit P → Split P
 told found = record { side = λ i. is_in found.sides i; price = found.price }
 
--- An accepted split: the sides word and the price of the split that the rounds find; what the answer tells is lawful, has its true price,
--- and no lawful split is cheaper. As many first cells as home modules are zero.
+-- An accepted split: what the answer tells is lawful, has its true price, and no lawful split is cheaper. Its sides word and price are those
+-- of the split that the rounds find, which has home module 0 on A and is the first of the lowest noted. As many first cells as home modules are zero.
 pub record Splitted {P : Type 0} (k : Kind P) (m : Meaning P) (cells cells' : List P) (r : Result (FoundSplit P) Fault) : Type 0 where
   pub split : Split P
   pub by_rounds : split_of k m ≡ Some split
-  pub found : FoundFor k m split
+  pub first_on_a : split.side 0 ≡ false
+  pub first_of_lowest : FirstOfLowest k (noted_of k m) split
   pub answer : FoundSplit P
   pub answered : r ≡ Ok answer
   pub sides : answer.sides ≡ sides_word (homes m) split.side

@@ -1,12 +1,12 @@
 //! The pull row: a key for each module in the cells handed in, and which modules are taken.
-ghost use Rattle.std.specs.Prelude.{◌≡◌, ℕ, ◌<◌, true, length, replicate, slice_set, if◌then◌else◌, MatchOption};
-ghost use Rattle.moduleset.specs.Words.{has as is_in};
-ghost use Rattle.partition.specs.Pulls.{WaitBelow, Greatest, TakesGreatest, key_in};
+ghost use Rattle.std.specs.Prelude.{◌≡◌, ◌<◌, length, replicate, slice_set, if◌then◌else◌};
+ghost use Rattle.partition.specs.Pulls.{WaitBelow, GreatestWaiting, TakesGreatest, key_in};
 
 use moduleset::ModuleSet;
+use netlist::limits::MODULES_MOST;
 use price::Price;
 
-/// The pulls of one step of an order. Each module that waits has a cell.
+// The pulls of one step of an order. Each module that waits has a cell.
 #[derive(Drop)]
 pub(crate) struct PullRow<'a, P> {
     pub(crate) cells: &'a mut [P],
@@ -15,7 +15,7 @@ pub(crate) struct PullRow<'a, P> {
 }
 
 impl<'a, P: Price> PullRow<'a, P> {
-    /// Joins a price onto the key of a module.
+    // Joins a price onto the key of a module.
     pub(crate) fn join(&mut self, v: u8, price: P)
         requires { v < length self.old.cells.now }
         ensures cells { self.new.cells.now ≡ slice_set self.old.cells.now v (P.kind.join (key_in P.kind self.old.cells.now v) price) }
@@ -25,7 +25,7 @@ impl<'a, P: Price> PullRow<'a, P> {
         self.cells[v as usize] = key.join(price);
     }
 
-    /// Takes the waiting module with the greatest key, the lowest on equal keys.
+    // Takes the waiting module with the greatest key, the lowest on equal keys.
     pub(crate) fn take_greatest(&mut self) -> Option<u8>
         ensures took { TakesGreatest P.kind (key_in P.kind self.old.cells.now) self.old.taken.word self.new.taken.word result }
         ensures cells { self.new.cells.now ≡ self.old.cells.now }
@@ -35,13 +35,13 @@ impl<'a, P: Price> PullRow<'a, P> {
         Some(v)
     }
 
-    /// The waiting module with the greatest key, the lowest on equal keys.
+    // The waiting module with the greatest key, the lowest on equal keys.
     fn greatest_waiting(&self) -> Option<u8>
-        ensures { MatchOption result ((v : ℕ) → v < 64 → is_in self.now.taken.word v ≡ true) (λ v. Greatest P.kind (key_in P.kind self.now.cells.now) self.now.taken.word 64 v) }
+        ensures { GreatestWaiting P.kind (key_in P.kind self.now.cells.now) self.now.taken.word result }
     {
         let mut best = ModuleSet::at_or_past(0).minus(self.taken).lowest()?;
         // A chain of `filter` and `reduce`: tried, and what `reduce` answers was not proved.
-        for v in best + 1..64 {
+        for v in best + 1..MODULES_MOST as u8 {
             if !self.taken.has(v) {
                 best = self.greater_of(best, v);
             }
@@ -49,7 +49,7 @@ impl<'a, P: Price> PullRow<'a, P> {
         Some(best)
     }
 
-    /// Of two modules the one with the greater key, the first on equal keys.
+    // Of two modules the one with the greater key, the first on equal keys.
     fn greater_of(&self, v: u8, w: u8) -> u8
         requires first { v < length self.now.cells.now }
         requires second { w < length self.now.cells.now }
@@ -58,7 +58,7 @@ impl<'a, P: Price> PullRow<'a, P> {
         if self.key(v).less(self.key(w)) { w } else { v }
     }
 
-    /// The key of a module.
+    // The key of a module.
     pub(crate) fn key(&self, v: u8) -> P
         requires { v < length self.now.cells.now }
         ensures { result ≡ key_in P.kind self.now.cells.now v }
@@ -67,7 +67,7 @@ impl<'a, P: Price> PullRow<'a, P> {
     }
 }
 
-/// Makes every cell zero.
+// Makes every cell zero.
 pub(crate) fn clear<P: Price>(cells: &mut [P])
     ensures { cells.new ≡ replicate (length cells.old) P.kind.zero }
 {

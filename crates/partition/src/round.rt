@@ -1,12 +1,12 @@
 //! A round over a netlist: the groups, and their order, step by step.
 ghost use Rattle.std.specs.Prelude.{◌≡◌, ℕ, ◌<◌, ◌≤◌, length, replicate};
 ghost use Rattle.netlist.specs.Places.{place as place_in};
-ghost use Rattle.netlist.specs.Meaning.{modules, own_nets};
-ghost use Rattle.cut.specs.Cuts.{split_price, alone};
-ghost use Rattle.cut.specs.Orders.{order as order_in, ending};
+ghost use Rattle.netlist.specs.Meaning.{modules};
+ghost use Rattle.cut.specs.Orders.{order as order_in};
 ghost use Rattle.grouping.specs.Masks.{grouped};
-ghost use Rattle.partition.specs.Pulls.{cleared, KeysArePulls, TakesGreatest, pulled};
-ghost use Rattle.partition.specs.Rounds.{by_noted, SameSplit, GroupRow, NetGroups, round_noted, round_row};
+ghost use Rattle.partition.specs.Pulls.{KeysArePulls};
+ghost use Rattle.partition.specs.Orders.{last_price};
+ghost use Rattle.partition.specs.Rounds.{GroupRow, NetGroups, RoundMade, TakesMostPulled};
 
 use crate::groups::Groups;
 use crate::pull_row::{PullRow, clear};
@@ -14,23 +14,24 @@ use grouping::groups::group_set;
 use grouping::masks::pulled_at;
 use moduleset::ModuleSet;
 use netlist::Netlist;
+use netlist::limits::MODULES_MOST;
 use price::Price;
 
-/// A split that a round notes: the modules on side B, and its price.
+// A split that a round notes: the modules on side B, and its price.
 #[derive(Clone, Copy)]
 pub(crate) struct Noted<P> {
     pub(crate) sides: ModuleSet,
     pub(crate) price: P,
 }
 
-/// What a round notes, and the groups that it leaves.
+// What a round notes, and the groups that it leaves.
 #[derive(Clone, Copy)]
 pub(crate) struct RoundEnd<P> {
     pub(crate) noted: Noted<P>,
     pub(crate) groups: Groups,
 }
 
-/// A round over so many groups of a netlist's modules, two and more.
+// A round over so many groups of a netlist's modules, two and more.
 #[derive(Drop)]
 pub(crate) struct Round<'a, N: Netlist> {
     netlist: &'a N,
@@ -43,7 +44,7 @@ pub(crate) struct Round<'a, N: Netlist> {
 }
 
 impl<'a, N: Netlist> Round<'a, N> {
-    /// The round over so many groups.
+    // The round over so many groups.
     pub(crate) fn new(netlist: &'a N, groups: Groups, count: u8) -> Round<'a, N>
         requires several { 1 < count }
         requires few { count ≤ 64 }
@@ -60,15 +61,12 @@ impl<'a, N: Netlist> Round<'a, N> {
         }
     }
 
-    /// Parts off the last of the order, and unites the last two.
+    // Parts off the last of the order, and unites the last two.
     pub(crate) fn part_last(&self, cells: &mut [N::Price]) -> RoundEnd<N::Price>
         requires { self.now.count ≤ length cells.old }
-        ensures noted { SameSplit (by_noted result.noted) (round_noted N.Price.Price.kind (own_nets N.Price.Price.kind (N.meaning self.now.netlist.now)) self.now.count self.now.groups.row) }
-        ensures next { result.groups.row ≡ round_row N.Price.Price.kind (own_nets N.Price.Price.kind (N.meaning self.now.netlist.now)) self.now.count self.now.groups.row }
-        ensures nets { NetGroups N.Price.Price.kind (N.meaning self.now.netlist.now) result.groups }
-        ensures cells { cells.new ≡ cleared N.Price.Price.kind self.now.count cells.old }
+        ensures { RoundMade N.Price.Price.kind (N.meaning self.now.netlist.now) self.now.count self.now.groups.row cells.old cells.new result }
     {
-        let mut bytes = [0u8; 64];
+        let mut bytes = [0u8; MODULES_MOST];
         let order = &mut bytes[..self.count as usize];
         let price = self.order(&mut cells[..self.count as usize], order);
         let last = order[order.len() - 1];
@@ -82,13 +80,13 @@ impl<'a, N: Netlist> Round<'a, N> {
         }
     }
 
-    /// Writes the order of the groups into the bytes, and answers the price of parting off the last alone.
+    // Writes the order of the groups into the bytes, and answers the price of parting off the last alone.
     pub(crate) fn order(&self, cells: &mut [N::Price], bytes: &mut [u8]) -> N::Price
         requires room { length cells.old ≡ self.now.count }
         requires long { length bytes.old ≡ self.now.count }
         ensures order { bytes.new ≡ order_in N.Price.Price.kind (grouped N.Price.Price.kind (N.meaning self.now.netlist.now) self.now.groups.row) self.now.count }
         ensures cells { cells.new ≡ replicate self.now.count N.Price.Price.kind.zero }
-        ensures price { result ≡ split_price N.Price.Price.kind (alone (ending bytes.new).last) (grouped N.Price.Price.kind (N.meaning self.now.netlist.now) self.now.groups.row) }
+        ensures price { result ≡ last_price N.Price.Price.kind (grouped N.Price.Price.kind (N.meaning self.now.netlist.now) self.now.groups.row) bytes.new }
     {
         let taken = ModuleSet::at_or_past(self.count as usize).with(0);
         let mut pulls = PullRow {
@@ -108,9 +106,9 @@ impl<'a, N: Netlist> Round<'a, N> {
         price
     }
 
-    /// Takes the group most pulled by those taken, the lowest on equal pulls. Its key is its pull.
+    // Takes the group most pulled by those taken, the lowest on equal pulls. Its key is its pull.
     fn take_next(&self, pulls: &mut PullRow<'_, N::Price>) -> Option<u8>
-        ensures took { TakesGreatest N.Price.Price.kind (pulled N.Price.Price.kind (grouped N.Price.Price.kind (N.meaning self.now.netlist.now) self.now.groups.row) pulls.old.taken.word) pulls.old.taken.word pulls.new.taken.word result }
+        ensures took { TakesMostPulled N.Price.Price.kind (N.meaning self.now.netlist.now) self.now.groups.row pulls.old.taken.word pulls.new.taken.word result }
         ensures keys { KeysArePulls N.Price.Price.kind (grouped N.Price.Price.kind (N.meaning self.now.netlist.now) self.now.groups.row) pulls.old.taken.word pulls.new.cells.now }
         ensures long { length pulls.new.cells.now ≡ length pulls.old.cells.now }
     {
@@ -118,7 +116,7 @@ impl<'a, N: Netlist> Round<'a, N> {
         pulls.take_greatest()
     }
 
-    /// Makes the key of each group that waits its pull toward those taken: the prices of the nets that pull there, joined.
+    // Makes the key of each group that waits its pull toward those taken: the prices of the nets that pull there, joined.
     fn set_keys(&self, pulls: &mut PullRow<'_, N::Price>)
         ensures keys { KeysArePulls N.Price.Price.kind (grouped N.Price.Price.kind (N.meaning self.now.netlist.now) self.now.groups.row) pulls.old.taken.word pulls.new.cells.now }
         ensures long { length pulls.new.cells.now ≡ length pulls.old.cells.now }

@@ -9,7 +9,7 @@ use crate::round::{Noted, Round};
 use netlist::Netlist;
 use price::Price;
 
-/// All rounds over two modules and more: the noted split of lowest price, the earliest on equal prices.
+// All rounds over two modules and more: the noted split of lowest price, the earliest on equal prices.
 pub(crate) fn split_modules<N: Netlist>(
     netlist: &N,
     cells: &mut [N::Price],
@@ -33,7 +33,7 @@ pub(crate) fn split_modules<N: Netlist>(
 }
 
 impl<P: Price> Noted<P> {
-    /// The cheaper of two splits, the first on equal prices.
+    // The cheaper of two splits, the first on equal prices.
     fn or_cheaper(self, other: Noted<P>) -> Noted<P>
         ensures { by_noted result ≡ cheaper_of P.kind (by_noted self) (by_noted other) }
     {

@@ -36,7 +36,7 @@ pub fn split<N: Netlist>(netlist: &N, cells: &mut [N::Price]) -> Result<FoundSpl
     })
 }
 
-/// The home modules of a set of modules.
+// The home modules of a set of modules.
 fn home_set<N: Netlist>(netlist: &N, sides: ModuleSet) -> ModuleSet
     ensures { (i : ℕ) → i < 64 → is_in result.word i ≡ (nat_lt i (homes_of (N.meaning netlist.now)) && is_in sides.word (place_in (N.meaning netlist.now).places i)) }
 {

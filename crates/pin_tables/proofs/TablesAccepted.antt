@@ -1,20 +1,20 @@
 -- What is known of tables that pass the checks.
 use Rattle.std.proofs.Common.{◌≡◌, ℕ, zero, suc, ◌+◌, ◌<◌, ◌≤◌, false, not, eqb, List, length, get_or, Ok, sym, ap, subst, inl, inr, add-one, arith}
 use Rattle.std.proofs.lemmas.Bool.{cases_lt, or_parts, not-false, eqb-true, ltb-false}
+use Rattle.std.specs.Bool.{then_some}
 use Rattle.refusal.specs.declared.Fault.TheVariants.{TablesDisagree}
-use Rattle.refusal.specs.Checks.{fault_if}
-use Rattle.bottom.specs.LoadFaults.{few_fault, checked}
-use Rattle.refusal.proofs.CheckLaws.{fault_if_none, none_at}
-use Rattle.bottom.proofs.FirstFaults.{accepted}
+use Rattle.refusal.specs.Checks.{checked}
+use Rattle.bottom.specs.LoadFaults.{few_fault}
+use Rattle.refusal.proofs.CheckLaws.{accepted, then_some_none, none_at}
 use Rattle.pin_tables.specs.Tables.{disagree, few, Rising}
 
 same : (a b : ℕ) → not (eqb a b) ≡ false → a ≡ b
 same a b e = eqb-true a b (not-false (eqb a b) e)
 
-pub tables_agree : (x : Unit {0}) (starts : List ℕ) (pins nets : ℕ) → Ok x ≡ checked (fault_if (disagree starts pins nets) TablesDisagree)
+pub tables_agree : (x : Unit {0}) (starts : List ℕ) (pins nets : ℕ) → Ok x ≡ checked (then_some (disagree starts pins nets) TablesDisagree)
     → (length starts ≡ nets + 1) × (get_or starts nets 0 ≡ pins)
 tables_agree x starts pins nets e =
-    let outer = or_parts _ _ (fault_if_none _ _ (accepted x _ e)) in
+    let outer = or_parts _ _ (then_some_none _ _ (accepted x _ e)) in
     let inner = or_parts _ _ outer.1 in
     (same (length starts) (nets + 1) outer.0, same (get_or starts nets 0) pins inner.1)
 
@@ -30,5 +30,5 @@ climbs f (suc n) i h l =
 pub tables_rise : (x : Unit {0}) (starts pins : List ℕ) (nets : ℕ) → Ok x ≡ checked (few_fault (few starts) nets) → get_or starts nets 0 ≡ length pins → Rising starts pins nets
 tables_rise x starts pins nets e last net h =
     let step : (j : ℕ) → j < nets → get_or starts j 0 ≤ get_or starts (j + 1) 0 =
-    λ j l. omega (arith, ltb-false _ _ (fault_if_none (few starts j) _ (none_at _ j nets (accepted x (few_fault (few starts) nets) e) l))) in
+    λ j l. omega (arith, ltb-false _ _ (then_some_none (few starts j) _ (none_at _ j nets (accepted x (few_fault (few starts) nets) e) l))) in
     (step net h, omega (arith, climbs (λ (j : ℕ). get_or starts j 0) nets (net + 1) step (omega arith)))

@@ -1,5 +1,5 @@
 -- Pin tables: what they mean, and which fault load finds in them.
-use Rattle.std.specs.Prelude.{ℕ, ◌+◌, ◌-◌, ◌<◌, ◌≤◌, Bool, not, ◌||◌, List, length, take, drop, Option, ◌==◌, nat_lt, slice_index}
+use Rattle.std.specs.Prelude.{ℕ, ◌+◌, ◌<◌, ◌≤◌, Bool, not, ◌||◌, List, length, Option, ◌==◌, nat_lt, slice_index, slice_range}
 use Rattle.refusal.specs.declared.Fault.{Fault}
 use Rattle.netlist.specs.Meaning.{Meaning}
 use Rattle.bottom.specs.BottomMeaning.{bottom_meaning}
@@ -7,7 +7,7 @@ use Rattle.bottom.specs.LoadFaults.{load_fault}
 
 -- net i owns the pins from starts[i] up to, not including, starts[i + 1]
 abbrev pub net_pins : List ℕ → List ℕ → ℕ → List ℕ
-net_pins starts pins net = take (slice_index starts (net + 1) - slice_index starts net) (drop (slice_index starts net) pins)
+net_pins starts pins net = slice_range pins (slice_index starts net) (slice_index starts (net + 1))
 
 abbrev pub tables_meaning : {P : Type 0} → ℕ → List ℕ → List ℕ → List P → Meaning P
 tables_meaning modules starts pins prices = bottom_meaning modules (net_pins starts pins) prices

@@ -1,8 +1,9 @@
 //! Loading pin tables: the checks in their order, then the tables as they are.
 ghost use Rattle.std.specs.Prelude.{◌≡◌, ◌-◌, ◌<◌, ◌≤◌, length};
+ghost use Rattle.std.specs.Bool.{then_some};
 ghost use Rattle.refusal.specs.declared.Fault.TheVariants.{TablesDisagree};
-ghost use Rattle.refusal.specs.Checks.{fault_if};
-ghost use Rattle.bottom.specs.LoadFaults.{few_fault, checked, Loads};
+ghost use Rattle.refusal.specs.Checks.{checked};
+ghost use Rattle.bottom.specs.LoadFaults.{few_fault, Loads};
 ghost use Rattle.pin_tables.specs.Tables.{disagree, few, tables_fault, tables_meaning};
 ghost use Rattle.pin_tables.specs.Means.{means};
 
@@ -41,7 +42,7 @@ impl<'a, P: Price> PinTables<'a, P> {
 /// Refuses starts that do not fit the number of pins and nets.
 fn check_tables(starts: &[u32], pins: usize, nets: usize) -> Result<(), Fault>
     requires { nets ≤ 1024 }
-    ensures { result ≡ checked (fault_if (disagree starts.now pins nets) TablesDisagree) }
+    ensures { result ≡ checked (then_some (disagree starts.now pins nets) TablesDisagree) }
 {
     if starts.len() != nets + 1 || starts[0] != 0 || starts[nets] as usize != pins {
         return Err(Fault::TablesDisagree);

@@ -1,6 +1,7 @@
 //! The check of the pins that are loaded.
 ghost use Rattle.std.specs.Prelude.{◌≡◌, ◌-◌, ◌<◌, length};
-ghost use Rattle.bottom.specs.LoadFaults.{net_fault, pins_fault, checked};
+ghost use Rattle.refusal.specs.Checks.{checked};
+ghost use Rattle.bottom.specs.LoadFaults.{net_fault, pins_fault};
 ghost use Rattle.pin_tables.specs.Tables.{net_pins, Rising};
 
 use refusal::{Fault, Place};

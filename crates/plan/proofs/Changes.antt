@@ -2,8 +2,8 @@
 use Rattle.std.proofs.Common.{◌≡◌, ℕ, ◌<◌, Bool, true, false, cond, ◌&&◌, ltb, List, [], ◌∷◌, length, set, Some, None, Option, sym, refl, ap, ◌∙◌, subst, arith}
 use lib.ListN.{length-map}
 use Rattle.std.proofs.lemmas.Bool.{lt-ltb, and_from, cond-true}
-use Rattle.refusal.specs.Checks.{or_else}
 use Rattle.refusal.specs.declared.Fault.{Fault}
+use Rattle.refusal.proofs.CheckLaws.{option_or_none}
 use Rattle.netlist.specs.Places.{place}
 use Rattle.netlist.specs.Meaning.{Meaning, Sound, homes}
 use Rattle.netlist.specs.Changes.{strapped, united, united_place}
@@ -16,15 +16,7 @@ use Rattle.standing.specs.Standing.{apply, applied}
 use Rattle.standing.specs.StandingSound.{applied_sound}
 use Rattle.plan.specs.Reckoning.{Call, strap, mute, take_back, split, look, refusal, without_latest, changed, left_by, stand_after, stand}
 use Rattle.plan.specs.Promise.{StrapsKept, marked}
-use Rattle.standing.proofs.Layering.{no_none, strap_ends}
-
-pub first_passed : (f g : Option Fault) → or_else f g ≡ None → f ≡ None
-first_passed None g e = refl
-first_passed (Some fault) g e = absurd (no_none fault e)
-
-pub second_passed : (f g : Option Fault) → or_else f g ≡ None → g ≡ None
-second_passed None g e = e
-second_passed (Some fault) g e = absurd (no_none fault e)
+use Rattle.standing.proofs.Layering.{strap_ends}
 
 strapped_long : (a b : ℕ) (row : List ℕ) (t : Bool) → length (cond t row (united a b row)) ≡ length row
 strapped_long a b row true = refl
@@ -80,7 +72,7 @@ module _ {P : Type 0} where
     named_changed : (cs : List Change) (call : Call) → Named cs → refusal m cs call ≡ None → Named (changed cs call)
     unfolding refusal
     named_changed cs (strap a b) h e =
-        let q = strap_ends a b (applied m cs) (first_passed (strap_fault a b (applied m cs)) _ e) in
+        let q = strap_ends a b (applied m cs) (option_or_none (strap_fault a b (applied m cs)) _ e).0 in
         let same = homes_applied m cs in
         ((omega (arith, q.0), omega (arith, q.1)), h)
     named_changed cs (mute n) h e = h

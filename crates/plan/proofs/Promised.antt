@@ -14,20 +14,20 @@ use Rattle.standing.specs.Standing.{applied}
 use Rattle.plan.specs.Reckoning.{Call, strap, mute, take_back, split, look, refusal, left_by, stand_after, stand, found, shown_by, told, answer_by}
 use Rattle.plan.specs.Promise.{LawfulSplit, Truthful, Idle, Latest, Promise}
 use Rattle.plan.specs.Runs.{Leaves, answer_to, shown_after, answers_of, Ran, KeepsPromise}
-use Rattle.standing.proofs.Layering.{no_none}
+use Rattle.std.proofs.lemmas.Option.{none-some}
 use Rattle.plan.proofs.Changes.{homes_applied, named}
 use Rattle.plan.proofs.Truth.{standing_right, too_few, two_found, found_truthful}
 use Rattle.plan.proofs.Histories.{shown_more, ran_more}
 
 take_one_more : {X : Type 0} (xs : List X) (i : ℕ) (x : X) → slice_get xs i ≡ Some x → take (suc i) xs ≡ take i xs ++ x ∷ []
-take_one_more [] i x e = absurd (no_none x (sym e))
+take_one_more [] i x e = absurd (none-some x e)
 take_one_more (y ∷ ys) zero x e = let q : y ≡ x = cc in ap (λ z. z ∷ []) q
 take_one_more (y ∷ ys) (suc i) x e = ap (λ zs. y ∷ zs) (take_one_more ys i x e)
 
 take_all : {X : Type 0} (xs : List X) (i : ℕ) → slice_get xs i ≡ None → take (suc i) xs ≡ take i xs
 take_all [] zero e = refl
 take_all [] (suc i) e = refl
-take_all (y ∷ ys) zero e = absurd (no_none y e)
+take_all (y ∷ ys) zero e = absurd (none-some y (sym e))
 take_all (y ∷ ys) (suc i) e = ap (λ zs. y ∷ zs) (take_all ys i e)
 
 some_same : {X : Type 0} (x y : X) → Some x ≡ Some y → x ≡ y
@@ -37,7 +37,7 @@ told_found : {P : Type 0} (o : Option (FoundSplit P)) (v : FoundSplit P) → tol
 told_found None v e = let z : ◌≡◌ {A = ℕ} 0 1 = cc in absurd (omega arith)
 told_found (Some x) v e = cc
 
-told_refused : {P : Type 0} (o : Option (FoundSplit P)) (fault : Fault) → told o ≡ Refused fault → ⊥
+pub told_refused : {P : Type 0} (o : Option (FoundSplit P)) (fault : Fault) → told o ≡ Refused fault → ⊥
 told_refused None fault e = let z : ◌≡◌ {A = ℕ} 0 1 = cc in omega arith
 told_refused (Some x) fault e = let z : ◌≡◌ {A = ℕ} 0 1 = cc in omega arith
 
@@ -72,9 +72,9 @@ module _ {P : Type 0} (k : Kind P) (l : Laws k) (m : Meaning P) (s : Sound m) wh
   -- what is shown was found where the changes stand
   shown_step : (cs : List Change) (o : Option (FoundSplit P)) (r : Option Fault) (call : Call) → FoundThere cs o → FoundThere (left_by r cs call) (shown_by r (found k (applied m cs)) o call)
   shown_step cs o (Some fault) call h v e = h v e
-  shown_step cs o None (strap a b) h v e = absurd (no_none v (sym e))
-  shown_step cs o None (mute n) h v e = absurd (no_none v (sym e))
-  shown_step cs o None take_back h v e = absurd (no_none v (sym e))
+  shown_step cs o None (strap a b) h v e = absurd (none-some v e)
+  shown_step cs o None (mute n) h v e = absurd (none-some v e)
+  shown_step cs o None take_back h v e = absurd (none-some v e)
   shown_step cs o None (split cells) h v e = e
   shown_step cs o None look h v e = h v e
 
@@ -90,7 +90,7 @@ module _ {P : Type 0} (k : Kind P) (l : Laws k) (m : Meaning P) (s : Sound m) wh
   -- the answer to call number i
   at_call : (cs : List Change) (o : Option (FoundSplit P)) (calls : List Call) (i : ℕ) (call : Call) → slice_get calls i ≡ Some call
       → slice_get (answers_of k m cs o calls) i ≡ Some (answer_to k m (stand_after m cs (take i calls)) (shown_after k m cs o (take i calls)) call)
-  at_call cs o [] i call e = absurd (no_none call (sym e))
+  at_call cs o [] i call e = absurd (none-some call e)
   at_call cs o (c ∷ calls) zero call e = let q : c ≡ call = cc in ap (λ z. Some (answer_to k m cs o z)) q
   at_call cs o (c ∷ calls) (suc i) call e = at_call (left_by (refusal m cs c) cs c) (shown_by (refusal m cs c) (found k (applied m cs)) o c) calls i call e
 
@@ -141,10 +141,10 @@ module _ {P : Type 0} (k : Kind P) (l : Laws k) (m : Meaning P) (s : Sound m) wh
       where
         of : (call : Call) → slice_get calls i ≡ Some call → (r : Option Fault) → refusal_at i call ≡ r → shown_by r (found_at i) (shown_at i) call ≡ Some v → Latest m calls answers (suc i) v
         of call p (Some fault) q h =
-            still_latest i v (λ c p' z. let same : c ≡ call = some_same c call (sym p' ∙ p) in absurd (no_none fault (sym q ∙ (ap (λ y. refusal_at i y) (sym same) ∙ z)))) (before h)
-        of (strap a b) p None q h = absurd (no_none v (sym h))
-        of (mute n) p None q h = absurd (no_none v (sym h))
-        of take_back p None q h = absurd (no_none v (sym h))
+            still_latest i v (λ c p' z. let same : c ≡ call = some_same c call (sym p' ∙ p) in absurd (none-some fault (sym (sym q ∙ (ap (λ y. refusal_at i y) (sym same) ∙ z))))) (before h)
+        of (strap a b) p None q h = absurd (none-some v h)
+        of (mute n) p None q h = absurd (none-some v h)
+        of take_back p None q h = absurd (none-some v h)
         of (split cells) p None q h = record {
           at = i;
           before = omega arith;
@@ -156,11 +156,11 @@ module _ {P : Type 0} (k : Kind P) (l : Laws k) (m : Meaning P) (s : Sound m) wh
         of look p None q h = still_latest i v (λ c p' z. some_same c look (sym p' ∙ p)) (before h)
 
         by : (n : Option Call) → slice_get calls i ≡ n → Latest m calls answers (suc i) v
-        by None p = still_latest i v (λ c p' z. absurd (no_none c (sym p' ∙ p))) (before (sym (shown_past i p) ∙ e))
+        by None p = still_latest i v (λ c p' z. absurd (none-some c (sym p ∙ p'))) (before (sym (shown_past i p) ∙ e))
         by (Some call) p = of call p (refusal_at i call) refl (sym (shown_next i call p) ∙ e)
 
     shown_latest : (i : ℕ) (v : FoundSplit P) → shown_at i ≡ Some v → Latest m calls answers i v
-    shown_latest zero v e = absurd (no_none v (sym e))
+    shown_latest zero v e = absurd (none-some v e)
     shown_latest (suc i) v e = shown_latest_step i v (λ h. shown_latest i v h) e
 
     stays_shown : (i : ℕ) (call : Call) (v : FoundSplit P) (r : Option Fault) → (r ≡ None → call ≡ look) → shown_at i ≡ Some v → shown_by r (found_at i) (shown_at i) call ≡ Some v
@@ -212,7 +212,7 @@ module _ {P : Type 0} (k : Kind P) (l : Laws k) (m : Meaning P) (s : Sound m) wh
     refused_split i cells fault e a = ⊎_elim inl (λ room. inr (none_lawful room)) (cases_lt cells (homes m))
       where
         not_free : (r : Option Fault) → answer_by r (found_at i) (shown_at i) (split cells) ≡ Refused fault → r ≡ None → ⊥
-        not_free (Some x) h z = no_none x z
+        not_free (Some x) h z = none-some x (sym z)
         not_free None h z = told_refused (found_at i) fault h
 
         none_lawful : homes m ≤ cells → (side : ℕ → Bool) → LawfulSplit m (changes_at i) side → ⊥
@@ -248,7 +248,7 @@ module _ {P : Type 0} (k : Kind P) (l : Laws k) (m : Meaning P) (s : Sound m) wh
       all_answered = each_answered [] None calls;
       looks_truthful = λ i v e a.
           let h = told_found (shown_at i) v (some_same _ (Found v) (sym (look_told i e) ∙ a)) in
-          found_truthful k l m s (changes_at i) (named m (take i calls)) v (shown_there (take i calls) [] None (λ x z. absurd (no_none x (sym z))) v h);
+          found_truthful k l m s (changes_at i) (named m (take i calls)) v (shown_there (take i calls) [] None (λ x z. absurd (none-some x z)) v h);
       split_refused = refused_split;
       split_accepted = accepted_split;
       look_shows = λ i v e latest. look_told i e ∙ ap (λ z. Some (told z)) (latest_shown i v latest);

@@ -21,7 +21,7 @@ use Rattle.standing.specs.Standing.{applied}
 use Rattle.standing.specs.StandingSound.{applied_sound}
 use Rattle.plan.specs.Reckoning.{answered, found}
 use Rattle.plan.specs.Promise.{LawfulSplit, true_price, side_of, Truthful, KeepsAll, StandingRight}
-use Rattle.standing.proofs.Layering.{no_none}
+use Rattle.std.proofs.lemmas.Option.{none-some}
 use Rattle.plan.proofs.Changes.{nets_applied, homes_applied, mutes_applied, Named, keeps_both}
 
 side_back : (b c : Bool) → c ≡ true → eqb (cond (c && b) 1 0) 1 ≡ b
@@ -139,7 +139,7 @@ module _ {P : Type 0} (k : Kind P) (l : Laws k) (m : Meaning P) (s : Sound m) wh
 
     pub found_truthful : (v : FoundSplit P) → found k (applied m cs) ≡ Some v → Truthful k m cs v
     found_truthful v e =
-        ⊎_elim (λ few. absurd (no_none v (sym e ∙ (too_few few).0)))
+        ⊎_elim (λ few. absurd (none-some v (sym (too_few few).0 ∙ e)))
         (λ two.
         let there = two_found (omega arith) in
         let same : there.0 ≡ v = let f = there.1 in cc in

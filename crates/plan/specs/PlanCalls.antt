@@ -10,7 +10,7 @@ use Rattle.plan.specs.declared.calls.Answer.TheVariants.{Done, Refused, Found}
 use Rattle.plan.specs.declared.plans.Plan.{Plan}
 use Rattle.plan.specs.declared.calls.Asked.{Asked}
 use Rattle.plan.specs.declared.calls.Asked.TheVariants.{Strap, Mute, TakeBack, Split, Look}
-use Rattle.plan.specs.Reckoning.{Call, call_of, refusal}
+use Rattle.plan.specs.Reckoning.{Call, strap, mute, take_back, split, look, call_of, refusal}
 use Rattle.plan.specs.Runs.{Leaves, answer_to, Ran, KeepsPromise}
 use Rattle.plan.specs.Plans.{standing_changes}
 
@@ -53,14 +53,15 @@ row_of TakeBack = []
 row_of (Split cells) = vec_items cells
 row_of Look = []
 
-abbrev pub row_left : {P : Type 0} → Kind P → Option Fault → ℕ → Asked P → List P
-row_left k refused count (Strap a b) = []
-row_left k refused count (Mute n) = []
-row_left k refused count TakeBack = []
-row_left k refused count (Split cells) = cells_left k refused count (vec_items cells)
-row_left k refused count Look = []
+-- a row of cells after a call: a split leaves it so, and any other call as it was
+abbrev pub row_left : {P : Type 0} → Kind P → Option Fault → ℕ → Call → List P → List P
+row_left k refused count (strap a b) row = row
+row_left k refused count (mute n) row = row
+row_left k refused count take_back row = row
+row_left k refused count (split cells) row = cells_left k refused count row
+row_left k refused count look row = row
 
 -- A call as a value stays what it is; of a split's row the cells are left as a split leaves them.
 pub record CallLeft {P : Type 0} (k : Kind P) (refused : Option Fault) (count : ℕ) (before after : Asked P) : Type 0 where
   pub same_call : call_of after ≡ call_of before
-  pub row : row_of after ≡ row_left k refused count before
+  pub row : row_of after ≡ row_left k refused count (call_of before) (row_of before)

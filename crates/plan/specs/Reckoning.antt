@@ -1,6 +1,6 @@
 -- What stands after a list of calls on a new plan: reckoned from the meaning of the netlist below and the calls alone.
 use Rattle.std.specs.Prelude.{ℕ, cond, List, [], ◌∷◌, length, Some, None, vec_len, Option, nat_lt}
-use Rattle.refusal.specs.Checks.{or_else}
+use Rattle.std.specs.Option.{option_or}
 use Rattle.refusal.specs.declared.Fault.{Fault}
 use Rattle.refusal.specs.declared.Fault.TheVariants.{PlanFull, NothingToTakeBack}
 use Rattle.price.specs.Kind.{Kind}
@@ -49,8 +49,8 @@ empty_fault (c ∷ cs) = None
 
 -- why a call is refused where these changes stand over m
 unfoldable pub refusal : {P : Type 0} → Meaning P → List Change → Call → Option Fault
-refusal m cs (strap a b) = or_else (strap_fault a b (applied m cs)) (full_fault cs)
-refusal m cs (mute n) = or_else (mute_fault n (applied m cs)) (full_fault cs)
+refusal m cs (strap a b) = option_or (strap_fault a b (applied m cs)) (full_fault cs)
+refusal m cs (mute n) = option_or (mute_fault n (applied m cs)) (full_fault cs)
 refusal m cs take_back = empty_fault cs
 refusal m cs (split cells) = split_fault (applied m cs) cells
 refusal m cs look = None

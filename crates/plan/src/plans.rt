@@ -9,7 +9,7 @@ pub mod changing;
 mod checking;
 pub mod questions;
 
-/// How many changes a plan holds at most.
+// How many changes a plan holds at most.
 const ROOM: usize = 64;
 
 /// A netlist, the changes that stand over it, the latest last, and the split that is shown.

@@ -6,11 +6,11 @@ use price::Price;
 use price::values::Wires;
 use refusal::Fault;
 use runs::ordering::run_and_order;
+use std::alloc::Global;
 use std::test::Fail;
 
-#[test]
-fn calls_on_a_chain_of_four(rt: HostRuntime) -> Result<(), Fail> {
-    let heap = rt.alloc();
+// Splits with three, four and five cells, a strap, a mute of a net that is not there, looks, and one take back too many.
+fn ten_calls(heap: Global) -> Result<Vec<Asked<Wires>>, Fail> {
     let mut calls = Vec::new(heap);
     calls.push(Asked::Look)?;
     calls.push(Asked::Split(vec![in heap; Wires { count: 9 }; 4]?))?;
@@ -22,6 +22,12 @@ fn calls_on_a_chain_of_four(rt: HostRuntime) -> Result<(), Fail> {
     calls.push(Asked::Look)?;
     calls.push(Asked::TakeBack)?;
     calls.push(Asked::TakeBack)?;
+    Ok(calls)
+}
+
+#[test]
+fn calls_on_a_chain_of_four(rt: HostRuntime) -> Result<(), Fail> {
+    let mut calls = ten_calls(rt.alloc())?;
     let mut answers = [Answer::Absent; 10];
     let mut bytes = [9u8; 5];
     let whole = run_and_order(

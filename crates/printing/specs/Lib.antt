@@ -1,2 +1,4 @@
 pub mod PageRuns
 pub mod Printed
+pub mod FirstBytes
+pub mod Readers

@@ -5,4 +5,6 @@ pub mod answering;
 pub mod kinds;
 pub mod limits;
 pub mod printing;
+pub mod readers;
+pub mod reading;
 pub mod tables;

@@ -1,7 +1,8 @@
 //! The tables that a page is unpacked into.
 ghost use Rattle.std.specs.Prelude.{◌≡◌, replicate, IfOk, vec_items, vec_len};
 
-use crate::limits::{HOMES_MOST, NETS_MOST, PINS_MOST};
+use crate::limits::PINS_MOST;
+use netlist::limits::{MODULES_MOST, NETS_MOST};
 use price::Price;
 use std::alloc::{AllocError, Global};
 
@@ -28,7 +29,7 @@ impl<P: Price> Tables<P> {
             starts: vec![in heap; 0u32; NETS_MOST + 1]?,
             pins: vec![in heap; 0u8; PINS_MOST]?,
             prices: vec![in heap; P::zero(); NETS_MOST]?,
-            cells: vec![in heap; P::zero(); HOMES_MOST]?,
+            cells: vec![in heap; P::zero(); MODULES_MOST]?,
         })
     }
 }

@@ -3,3 +3,5 @@
 
 #[cfg(test)]
 mod printed_tests;
+#[cfg(test)]
+mod readers_tests;

@@ -5,19 +5,19 @@ ghost use Rattle.std.specs.Prelude.{◌≡◌, ℕ, ◌<◌, length};
 ghost use Rattle.netlist.specs.Places.{place as place_in};
 ghost use Rattle.netlist.specs.Changes.{united as united_in, united_place as united_place_of};
 
+use netlist::limits::MODULES_MOST;
 use std::array;
 
 /// Each module a group of its own.
-pub fn singles() -> [u8; 64]
+pub fn singles() -> [u8; MODULES_MOST]
     ensures own { (v : ℕ) → v < 64 → place_in result v ≡ v }
-    ensures small { (v : ℕ) → place_in result v < 64 }
     ensures long { length result ≡ 64 }
 {
     array::from_fn(|v| v as u8)
 }
 
 /// The row with groups `a` and `b` united.
-pub fn united_row(row: [u8; 64], a: u8, b: u8) -> [u8; 64]
+pub fn united_row(row: [u8; MODULES_MOST], a: u8, b: u8) -> [u8; MODULES_MOST]
     ensures { result ≡ united_in a b row }
 {
     row.map(move |group| united_place(a, b, group))

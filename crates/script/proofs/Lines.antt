@@ -1,7 +1,7 @@
 -- The lines of a script, one after another.
 use Rattle.std.proofs.Common.{◌≡◌, ℕ, ◌+◌, ◌<◌, ◌≤◌, false, eqb, List, [], ◌∷◌, ◌++◌, length, sym, refl, ap, ◌∙◌, inl, inr, ⊎_elim, arith}
 use Rattle.std.proofs.lemmas.Bool.{ne_eqb, cases_Bool}
-use Rattle.script.specs.Pieces.{Without, Parted}
+use Rattle.script.specs.Pieces.{Without}
 use Rattle.script.specs.Scripts.{onto_first, lines_of, FirstLine}
 
 pub lines_parted : (line rest : List ℕ) → Without 10 line → lines_of (line ++ 10 ∷ rest) ≡ line ∷ lines_of rest
@@ -17,11 +17,13 @@ lines_alone (b ∷ c ∷ line) some w =
     let other : eqb b 10 ≡ false = ne_eqb b 10 w.0 in
     rw other (ap (onto_first b) (lines_alone (c ∷ line) (omega arith) w.1))
 
-pub first_parted : (script line rest : List ℕ) → 0 < length script → Parted 10 script line rest → FirstLine script line rest
-first_parted script line rest some p = record { some = some; ended = inl p; lines = ap lines_of p.whole ∙ lines_parted line rest p.first }
-
-pub first_alone : (script rest : List ℕ) → 0 < length script → Without 10 script → rest ≡ [] → FirstLine script script rest
-first_alone script rest some w e = record { some = some; ended = inr (refl, e, w); lines = lines_alone script some w ∙ ap (λ xs. script ∷ lines_of xs) (sym e) }
+-- the first line of a script is the first of its lines
+pub first_lines : {script line rest : List ℕ} → FirstLine script line rest → lines_of script ≡ line ∷ lines_of rest
+first_lines {script} {line} {rest} f =
+    elim f.ended [
+      | inl p ↦ ap lines_of p.whole ∙ lines_parted line rest p.first
+      | inr alone ↦ ap lines_of alone.0 ∙ lines_alone line (omega (arith, f.some, ap length alone.0)) alone.2 ∙ ap (λ xs. line ∷ lines_of xs) (sym alone.1)
+    ]
 
 few_more : (byte : ℕ) (lines : List (List ℕ)) (n : ℕ) → length lines ≤ n → length (onto_first byte lines) ≤ n + 1
 few_more byte [] n few = omega arith

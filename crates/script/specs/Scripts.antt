@@ -16,4 +16,3 @@ lines_of (byte ∷ bytes) = cond (byte == 10) ([] ∷ lines_of bytes) (onto_firs
 pub record FirstLine (script line rest : List ℕ) : Type 0 where
   pub some : 0 < length script
   pub ended : Parted 10 script line rest ⊎ ((script ≡ line) × (rest ≡ []) × Without 10 line)
-  pub lines : lines_of script ≡ line ∷ lines_of rest

@@ -4,10 +4,10 @@ ghost use Rattle.script.specs.Numbers.{NumberRead};
 use itoa::Buffer;
 use std::str;
 
-/// A number is less than this: it has at most 4 digits.
+// A number is less than this: it has at most 4 digits.
 const NUMBER_END: usize = 10_000;
 
-/// The number that the bytes write in decimal, with 1 to 4 digits and no leading zeros.
+// The number that the bytes write in decimal, with 1 to 4 digits and no leading zeros.
 pub(crate) fn number(bytes: &[u8]) -> Option<usize>
     ensures { NumberRead bytes.now result }
 {

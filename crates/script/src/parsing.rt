@@ -20,7 +20,7 @@ pub fn parse(line: &[u8]) -> Option<Command>
     }
 }
 
-/// The command of a line that begins with `s`, by what follows.
+// The command of a line that begins with `s`, by what follows.
 fn parse_strap(rest: &[u8]) -> Option<Command>
     ensures { Understood (115 ∷ rest.now) result }
 {
@@ -30,21 +30,21 @@ fn parse_strap(rest: &[u8]) -> Option<Command>
     Some(Command::Strap(a, b))
 }
 
-/// The command of a line that begins with `m`, by what follows.
+// The command of a line that begins with `m`, by what follows.
 fn parse_mute(rest: &[u8]) -> Option<Command>
     ensures { Understood (109 ∷ rest.now) result }
 {
     number(after_space(rest)?).map(Command::Mute)
 }
 
-/// The command, where nothing follows its letter.
+// The command, where nothing follows its letter.
 fn alone(rest: &[u8], command: Command) -> Option<Command>
     ensures { result ≡ (if nat_eq (length rest.now) 0 then Some command else None) }
 {
     rest.is_empty().then_some(command)
 }
 
-/// What follows a space.
+// What follows a space.
 fn after_space(bytes: &[u8]) -> Option<&[u8]>
     ensures { MatchOption result ((rest : List ℕ) → bytes.now ≢ 32 ∷ rest) (λ rest. bytes.now ≡ 32 ∷ rest.now) }
 {

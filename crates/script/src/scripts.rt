@@ -55,6 +55,7 @@ impl<'a> Iterator for Lines<'a> {
 
     ghost remaining = { item_count lines_left };
 
+    #[tactic(auto, using(crate::proofs::Lines::first_lines))]
     fn next(&mut self) -> Option<&'a [u8]> {
         let next = next_line(self.rest)?;
         self.rest = next.rest;

@@ -10,14 +10,14 @@ use Rattle.plan.specs.Reckoning.{Call, refusal, stand}
 use Rattle.plan.specs.Promise.{Promise}
 use Rattle.plan.specs.Runs.{Ran}
 use Rattle.plan.specs.Plans.{standing_changes}
-use Rattle.plan.specs.PlanCalls.{LedTo, refusal_on}
+use Rattle.plan.specs.PlanCalls.{LedTo, refusal_on, row_left}
 use Rattle.plan.proofs.Promised.{promised}
 use Rattle.lines.specs.Lines.{line_bytes, refused_line, Written}
 use Rattle.refusal.specs.declared.Fault.TheVariants.{LineNotUnderstood}
 use Rattle.script.specs.declared.commands.Command.{Command}
 use Rattle.script.specs.Commands.{Understood}
 use Rattle.script.specs.Scripts.{lines_of}
-use Rattle.session.specs.LineRuns.{Outcome, LineRun, RunLine, call_of, cells_after}
+use Rattle.session.specs.LineRuns.{Outcome, LineRun, RunLine, call_of}
 use Rattle.session.specs.ScriptRuns.{Told, nothing, said, unsaid, ScriptWritten}
 use Rattle.session.proofs.LinesRun.{PutAt, put_in_part}
 
@@ -90,8 +90,8 @@ module _ {N P : Type 0} (k : Kind P) (means : N → Meaning P) (netlist : N) (sc
             let call = call_of command (length row) in
             let same : refusal_on means before call ≡ refusal (means netlist) (stand (means netlist) so_far.calls) call =
             ap (λ n. refusal (means n) (standing_changes before) call) so_far.below ∙ ap (λ cs. refusal (means netlist) cs call) so_far.ran.stands in
-            let row_is : row' ≡ cells_after k (refusal (means netlist) (stand (means netlist) so_far.calls) call) (homes (means netlist)) call row =
-            o.run.cells_are ∙ ap (λ f. cells_after k f (homes (means before.below)) call row) same ∙ ap (λ n. cells_after k (refusal (means netlist) (stand (means netlist) so_far.calls) call) (homes (means n)) call row) so_far.below in
+            let row_is : row' ≡ row_left k (refusal (means netlist) (stand (means netlist) so_far.calls) call) (homes (means netlist)) call row =
+            o.run.cells_are ∙ ap (λ f. row_left k f (homes (means before.below)) call row) same ∙ ap (λ n. row_left k (refusal (means netlist) (stand (means netlist) so_far.calls) call) (homes (means n)) call row) so_far.below in
             record {
               lines = so_far.lines ++ line ∷ [];
               calls = so_far.calls ++ call ∷ [];

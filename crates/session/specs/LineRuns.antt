@@ -8,7 +8,7 @@ use Rattle.plan.specs.declared.plans.Plan.{Plan}
 use Rattle.plan.specs.declared.calls.Answer.{Answer}
 use Rattle.plan.specs.declared.calls.Answer.TheVariants.{Done, Refused, Found, Absent}
 use Rattle.plan.specs.Reckoning.{Call, strap, mute, take_back, split, look}
-use Rattle.plan.specs.PlanCalls.{refusal_on, CallOn, cells_left}
+use Rattle.plan.specs.PlanCalls.{refusal_on, CallOn, row_left}
 use Rattle.lines.specs.declared.writing.Line.{Line}
 use Rattle.lines.specs.declared.writing.Line.TheVariants as lines
 use Rattle.lines.specs.Lines.{line_bytes, refused_line, Written}
@@ -35,20 +35,12 @@ abbrev pub line_told : Result Line Fault → Line
 line_told (Ok line) = line
 line_told (Err fault) = lines.Refused fault
 
--- the cells after a call: a split's are left as a split leaves them
-abbrev pub cells_after : {P : Type 0} → Kind P → Option Fault → ℕ → Call → List P → List P
-cells_after k refused count (strap a b) cells = cells
-cells_after k refused count (mute n) cells = cells
-cells_after k refused count take_back cells = cells
-cells_after k refused count (split n) cells = cells_left k refused count cells
-cells_after k refused count look cells = cells
-
 -- A command run on a plan: its call is answered and leaves the plan as reckoned, and this line tells the answer.
 pub record CommandRun {N P : Type 0} (k : Kind P) (means : N → Meaning P) (command : Command) (before after : Plan N P) (cells cells' : List P) (told : Line) : Type 0 where
   pub answer : Answer P
   pub call : CallOn k means (call_of command (length cells)) before after answer
   pub tells : line_of k answer ≡ Some told
-  pub cells_are : cells' ≡ cells_after k (refusal_on means before (call_of command (length cells))) (homes (means before.below)) (call_of command (length cells)) cells
+  pub cells_are : cells' ≡ row_left k (refusal_on means before (call_of command (length cells))) (homes (means before.below)) (call_of command (length cells)) cells
 
 -- A command that the line says is run and its answer written.
 pub record CommandWritten {N P : Type 0} (k : Kind P) (means : N → Meaning P) (command : Command) (before after : Plan N P) (cells cells' : List P)

@@ -8,12 +8,13 @@ use Rattle.plan.specs.declared.calls.Answer.{Answer}
 use Rattle.plan.specs.Reckoning.{Call, refusal, stand}
 use Rattle.plan.specs.Promise.{Promise}
 use Rattle.plan.specs.Runs.{answers_of}
+use Rattle.plan.specs.PlanCalls.{row_left}
 use Rattle.lines.specs.declared.writing.Line.{Line}
 use Rattle.lines.specs.Lines.{line_bytes, refused_line}
 use Rattle.script.specs.declared.commands.Command.{Command}
 use Rattle.script.specs.Commands.{Says}
 use Rattle.script.specs.Scripts.{lines_of}
-use Rattle.session.specs.LineRuns.{call_of, line_of, cells_after}
+use Rattle.session.specs.LineRuns.{call_of, line_of}
 
 -- Script lines on a new plan over m, the calls that they say, the answers to these, the bytes that tell them, and the cells that are left, line by line.
 pub data Told {P : Type 0} (k : Kind P) (m : Meaning P) (cells : List P) : List (List ℕ) → List Call → List (Answer P) → List ℕ → List P → Type 0 where
@@ -21,7 +22,7 @@ pub data Told {P : Type 0} (k : Kind P) (m : Meaning P) (cells : List P) : List 
   said : {lines : List (List ℕ)} {calls : List Call} {answers : List (Answer P)} {bytes : List ℕ} {row : List P} → Told k m cells lines calls answers bytes row
       → (line : List ℕ) (command : Command) → Says line command → (answer : Answer P) (told : Line) → line_of k answer ≡ Some told
       → Told k m cells (lines ++ line ∷ []) (calls ++ call_of command (length row) ∷ []) (answers ++ answer ∷ []) (bytes ++ line_bytes told)
-      (cells_after k (refusal m (stand m calls) (call_of command (length row))) (homes m) (call_of command (length row)) row)
+      (row_left k (refusal m (stand m calls) (call_of command (length row))) (homes m) (call_of command (length row)) row)
   unsaid : {lines : List (List ℕ)} {calls : List Call} {answers : List (Answer P)} {bytes : List ℕ} {row : List P} → Told k m cells lines calls answers bytes row
       → (line : List ℕ) → ((command : Command) → Says line command → ⊥)
       → Told k m cells (lines ++ line ∷ []) calls answers (bytes ++ refused_line LineNotUnderstood) row

@@ -31,7 +31,7 @@ pub fn run_line<N: Netlist>(
     write_line(told, out)
 }
 
-/// Makes the call that a command says: the line of its answer, or why it is refused.
+// Makes the call that a command says: the line of its answer, or why it is refused.
 fn run_command<N: Netlist>(
     plan: &mut Plan<N>,
     cells: &mut [N::Price],

@@ -10,29 +10,26 @@ use pin_tables::PinTables;
 use price::Price;
 use price::values::{TimersFirst, Widest, Wires};
 use refusal::Place;
+use std::process::Abort;
+
+// A netlist of five home modules is split so, and a cell for each is zero.
+fn finds<N: Netlist<Price = Wires>>(rt: &impl Abort, netlist: &N, sides: u64, count: u64) {
+    let mut cells = [SEVEN; 6];
+    assert_eq!(rt; split(netlist, &mut cells), Ok(wires(sides, count)));
+    assert_eq!(rt; cells, [ZERO, ZERO, ZERO, ZERO, ZERO, SEVEN]);
+}
 
 #[test]
 fn five_modules_in_wires(rt: HostRuntime) {
     let mut netlist = PinTables::empty();
     assert!(rt; netlist.load(5, &STARTS, &PINS, &WIRES).is_ok());
-    let mut cells = [SEVEN; 6];
-    assert_eq!(rt;
-        split(&netlist, &mut cells),
-        Ok(wires(0x1800_0000_0000_0000, 3))
-    );
-    assert_eq!(rt; cells, [ZERO, ZERO, ZERO, ZERO, ZERO, SEVEN]);
+    finds(&rt, &netlist, 0x1800_0000_0000_0000, 3);
     let mut strapped = StrapLayer::over(netlist);
     assert!(rt; strapped.strap(2, 4).is_ok());
-    assert_eq!(rt;
-        split(&strapped, &mut cells),
-        Ok(wires(0x3800_0000_0000_0000, 4))
-    );
+    finds(&rt, &strapped, 0x3800_0000_0000_0000, 4);
     let mut muted = MuteLayer::over(strapped);
     assert!(rt; muted.mute(0).is_ok());
-    assert_eq!(rt;
-        split(&muted, &mut cells),
-        Ok(wires(0x4000_0000_0000_0000, 2))
-    );
+    finds(&rt, &muted, 0x4000_0000_0000_0000, 2);
 }
 
 #[test]

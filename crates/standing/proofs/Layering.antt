@@ -3,23 +3,19 @@ use Rattle.std.proofs.Common.{◌≡◌, ℕ, zero, suc, ◌+◌, ◌<◌, Bool,
 use Rattle.std.proofs.lemmas.List.{take_more, reverse-append}
 use Rattle.std.proofs.lemmas.Bool.{lt-ltb, and_from, cond-true}
 use Rattle.std.proofs.lemmas.Bool.Decides.{nat_tests}
+use Rattle.std.proofs.lemmas.Option.{none-some}
 use Rattle.refusal.specs.declared.Fault.{Fault}
 use Rattle.refusal.specs.declared.Fault.TheVariants.{NoSuchHomeModule, AlreadyTogether, NoSuchNet, AlreadyMuted}
+use Rattle.refusal.specs.Checks.{checked}
 use Rattle.netlist.specs.Places.{place}
 use Rattle.netlist.specs.Meaning.{Meaning, Sound, homes}
 use Rattle.netlist.specs.Changes.{strapped, united, muted_also}
 use Rattle.layers.specs.Layered.{muted_by_either}
-use Rattle.layers.specs.Refusals.{strap_fault, mute_fault, Checked}
+use Rattle.layers.specs.Refusals.{strap_fault, mute_fault}
 use Rattle.layers.specs.Changed.{Straps, Mutes}
 use Rattle.standing.specs.declared.change.Change.{Change}
 use Rattle.standing.specs.declared.change.Change.TheVariants.{Strapped, Muted}
 use Rattle.standing.specs.Standing.{apply, applied}
-
-pub no_none : {X : Type 0} (x : X) → Some x ≡ None → ⊥
-no_none x e = let z : ◌≡◌ {A = ℕ} 0 1 = cc in omega arith
-
-some_none : {X : Type 0} (x : X) → None ≡ Some x → ⊥
-some_none x e = no_none x (sym e)
 
 set_again : (marks : List Bool) (n : ℕ) → (n < length marks → get_or marks n false ≡ true) → marks ≡ set marks n true
 set_again [] n h = refl
@@ -40,7 +36,7 @@ module _ {P : Type 0} where
       by_guard true true q h =
           ap (λ row. record { places = row; nets = m.nets; muted = m.muted })
           (sym (cond-true (eqb (place m.places a) (place m.places b)) m.places (united (place m.places a) (place m.places b) m.places) q))
-      by_guard true false q h = absurd (some_none fault h)
+      by_guard true false q h = absurd (none-some fault h)
       by_guard false u q h = refl
 
   strap_changes : (a b : ℕ) (m : Meaning P) → strap_fault a b m ≡ None → strapped a b m ≡ apply (Strapped a b) m
@@ -54,7 +50,7 @@ module _ {P : Type 0} where
     where
       by_mark : (t : Bool) → get_or m.muted n false ≡ t → cond t (Some AlreadyMuted) None ≡ Some fault → get_or m.muted n false ≡ true
       by_mark true q h = q
-      by_mark false q h = absurd (some_none fault h)
+      by_mark false q h = absurd (none-some fault h)
 
       muted_there : n < length m.muted → get_or m.muted n false ≡ true
       muted_there low =
@@ -64,13 +60,13 @@ module _ {P : Type 0} where
 
   module _ {L : Type 0} (means : L → Meaning P) (old new : L) where
     -- what the layers tell of a strap and of a mute
-    pub straps_checked : (a b : ℕ) (r : Result (Unit {0}) Fault) → Straps means a b old new r → Checked (strap_fault a b (means old)) r
-    straps_checked a b (Ok _) h = h.0
-    straps_checked a b (Err fault) h = h.0
+    pub straps_checked : (a b : ℕ) (r : Result (Unit {0}) Fault) → Straps means a b old new r → r ≡ checked (strap_fault a b (means old))
+    straps_checked a b (Ok _) h = sym (ap checked h.0)
+    straps_checked a b (Err fault) h = sym (ap checked h.0)
 
-    pub mutes_checked : (n : ℕ) (r : Result (Unit {0}) Fault) → Mutes means n old new r → Checked (mute_fault n (means old)) r
-    mutes_checked n (Ok _) h = h.0
-    mutes_checked n (Err fault) h = h.0
+    pub mutes_checked : (n : ℕ) (r : Result (Unit {0}) Fault) → Mutes means n old new r → r ≡ checked (mute_fault n (means old))
+    mutes_checked n (Ok _) h = sym (ap checked h.0)
+    mutes_checked n (Err fault) h = sym (ap checked h.0)
 
     straps_apply : (a b : ℕ) (r : Result (Unit {0}) Fault) → Straps means a b old new r → means new ≡ apply (Strapped a b) (means old)
     straps_apply a b (Ok _) h = h.1 ∙ strap_changes a b (means old) h.0

@@ -2,7 +2,7 @@
 #![tactic(auto)]
 
 ghost use Rattle.std.specs.Prelude.{◌≡◌, reverse, IfErr};
-ghost use Rattle.layers.specs.Refusals.{Checked};
+ghost use Rattle.refusal.specs.Checks.{checked};
 ghost use Rattle.standing.specs.Standing.{apply, applied, change_fault};
 ghost use Rattle.standing.specs.LentMeaning.{layers_meaning, standing_meaning};
 
@@ -31,14 +31,15 @@ pub fn standing<'a, N: Netlist>(
     layers
 }
 
-/// Applies a change. One that the layers refuse is answered by their refusal, and leaves the layers as they were.
+/// Applies a change; the netlist below stays. One that the layers refuse is answered by their refusal, and leaves the layers as they were.
 pub fn apply_change<N: Netlist>(
     layers: &mut MuteLayer<StrapLayer<N>>,
     change: Change,
 ) -> Result<(), Fault>
     ensures applies { layers_meaning N.Netlist.meaning layers.new ≡ apply change (layers_meaning N.Netlist.meaning layers.old) }
-    ensures checked { Checked (change_fault change (layers_meaning N.Netlist.meaning layers.old)) result }
+    ensures checked { result ≡ checked (change_fault change (layers_meaning N.Netlist.meaning layers.old)) }
     ensures refused { IfErr result (λ fault. layers.new ≡ layers.old) }
+    ensures below { layers.new.below.below ≡ layers.old.below.below }
 {
     match change {
         Change::Strapped(a, b) => layers.below.strap(a, b),

@@ -1,11 +1,13 @@
 //! A mute layer made, and nets muted in it.
 ghost use Rattle.std.specs.Prelude.{◌≡◌};
+ghost use Rattle.refusal.specs.Checks.{checked};
 ghost use Rattle.layers.specs.Layered.{mute_meaning};
-ghost use Rattle.layers.specs.Refusals.{Checked, mute_fault};
+ghost use Rattle.layers.specs.Refusals.{mute_fault};
 ghost use Rattle.layers.specs.Changed.{Mutes};
 
 use crate::mute::MuteLayer;
 use netlist::Netlist;
+use netlist::limits::NETS_MOST;
 use refusal::Fault;
 
 impl<N: Netlist> MuteLayer<N> {
@@ -15,7 +17,7 @@ impl<N: Netlist> MuteLayer<N> {
     {
         MuteLayer {
             below,
-            row: [false; 1024],
+            row: [false; NETS_MOST],
         }
     }
 
@@ -32,7 +34,7 @@ impl<N: Netlist> MuteLayer<N> {
 
     /// That a net is there and not muted.
     fn check_unmuted(&self, net: usize) -> Result<(), Fault>
-        ensures { Checked (mute_fault net (mute_meaning N.Netlist.meaning self.now)) result }
+        ensures { result ≡ checked (mute_fault net (mute_meaning N.Netlist.meaning self.now)) }
     {
         match self.is_muted(net) {
             None => Err(Fault::NoSuchNet),

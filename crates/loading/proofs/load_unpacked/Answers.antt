@@ -1,11 +1,8 @@
-use Rattle.std.proofs.Common.{◌≡◌, Err, refl, ◌∙◌}
+use Rattle.std.proofs.Common.{◌∙◌}
 use Rattle.std.proofs.lemmas.Slice.{between_from_start}
 use Rattle.std.proofs.lemmas.Result.{err_from_is_err_and}
-use Rattle.refusal.specs.declared.Fault.TheVariants.{TooShort}
-use Rattle.bottom.specs.LoadFaults.{Loads}
 use Rattle.pin_tables.specs.Means.{means}
-use Rattle.loading.specs.Loading.{counted_fault, counted_meaning}
-use Rattle.loading.proofs.PageLoads.{pages_load, starts_short, pins_short, prices_short, counted_loads, past_end}
+use Rattle.loading.proofs.PageLoads.{pages_load, short_told, starts_short, pins_short, prices_short, counted_loads, past_end}
 use Rattle.loading.proofs.load_unpacked.Goals as goal
 
 pub returns-in_err-starts : goal.returns-in_err-starts
@@ -15,10 +12,10 @@ returns-in_err-starts g c =
     let pins = c.args.pins.now in
     let prices = c.args.prices.now in
     let p = err_from_is_err_and c.from_residual.result c.from_residual.ensures.1 in
-    let told : c.from_residual.result ≡ Err (TooShort 1) = cc (p.1, p.2, rw c.in_err-starts.ensures.ok_part at c.in_err-starts.ensures.value) in
-    let loads : Loads means (counted_fault n starts pins prices) (counted_meaning n starts pins prices) c.args.tables.now c.args.tables.now c.from_residual.result =
-    rw told (starts_short n starts pins prices (past_end (rw c.in_err-starts.ensures.ok_part at c.get.ensures.lookup.0)), refl) in
-    record { loads = loads; pages = pages_load g.P.Price.kind means n starts pins prices c.args.tables.now c.args.tables.now c.from_residual.result loads }
+    let told = short_told n starts pins prices g.P.Price.kind means c.args.tables.now c.from_residual.result 1
+    (starts_short n starts pins prices (past_end (rw c.in_err-starts.ensures.ok_part at c.get.ensures.lookup.0)))
+    (cc (p.1, p.2, rw c.in_err-starts.ensures.ok_part at c.in_err-starts.ensures.value)) in
+    record { loads = told.0; pages = told.1 }
 
 pub returns-in_err-pins : goal.returns-in_err-pins
 returns-in_err-pins g c =
@@ -28,10 +25,10 @@ returns-in_err-pins g c =
     let prices = c.args.prices.now in
     let found_starts = rw c.in_ok-starts.ensures.ok_part at c.get.ensures.lookup.0 in
     let p = err_from_is_err_and c.from_residual-in_err-pins.result c.from_residual-in_err-pins.ensures.1 in
-    let told : c.from_residual-in_err-pins.result ≡ Err (TooShort 2) = cc (p.1, p.2, rw c.in_err-pins.ensures.ok_part at c.in_err-pins.ensures.value) in
-    let loads : Loads means (counted_fault n starts pins prices) (counted_meaning n starts pins prices) c.args.tables.now c.args.tables.now c.from_residual-in_err-pins.result =
-    rw told (pins_short n starts pins prices found_starts.1 (past_end (rw c.in_err-pins.ensures.ok_part at c.get-2.ensures.lookup.0)), refl) in
-    record { loads = loads; pages = pages_load g.P.Price.kind means n starts pins prices c.args.tables.now c.args.tables.now c.from_residual-in_err-pins.result loads }
+    let told = short_told n starts pins prices g.P.Price.kind means c.args.tables.now c.from_residual-in_err-pins.result 2
+    (pins_short n starts pins prices found_starts.1 (past_end (rw c.in_err-pins.ensures.ok_part at c.get-2.ensures.lookup.0)))
+    (cc (p.1, p.2, rw c.in_err-pins.ensures.ok_part at c.in_err-pins.ensures.value)) in
+    record { loads = told.0; pages = told.1 }
 
 pub returns-in_err-prices : goal.returns-in_err-prices
 returns-in_err-prices g c =
@@ -42,10 +39,10 @@ returns-in_err-prices g c =
     let found_starts = rw c.in_ok-starts.ensures.ok_part at c.get.ensures.lookup.0 in
     let found_pins = rw c.in_ok-pins.ensures.ok_part at c.get-2.ensures.lookup.0 in
     let p = err_from_is_err_and c.from_residual-in_err-prices.result c.from_residual-in_err-prices.ensures.1 in
-    let told : c.from_residual-in_err-prices.result ≡ Err (TooShort 3) = cc (p.1, p.2, rw c.in_err-prices.ensures.ok_part at c.in_err-prices.ensures.value) in
-    let loads : Loads means (counted_fault n starts pins prices) (counted_meaning n starts pins prices) c.args.tables.now c.args.tables.now c.from_residual-in_err-prices.result =
-    rw told (prices_short n starts pins prices found_starts.1 found_pins.1 (past_end (rw c.in_err-prices.ensures.ok_part at c.get-3.ensures.lookup.0)), refl) in
-    record { loads = loads; pages = pages_load g.P.Price.kind means n starts pins prices c.args.tables.now c.args.tables.now c.from_residual-in_err-prices.result loads }
+    let told = short_told n starts pins prices g.P.Price.kind means c.args.tables.now c.from_residual-in_err-prices.result 3
+    (prices_short n starts pins prices found_starts.1 found_pins.1 (past_end (rw c.in_err-prices.ensures.ok_part at c.get-3.ensures.lookup.0)))
+    (cc (p.1, p.2, rw c.in_err-prices.ensures.ok_part at c.in_err-prices.ensures.value)) in
+    record { loads = told.0; pages = told.1 }
 
 pub returns : goal.returns
 returns g c =

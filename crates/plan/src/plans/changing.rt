@@ -41,7 +41,7 @@ impl<N: Netlist> Plan<N> {
         self.make_change(Change::Muted(net))
     }
 
-    /// Makes a change, where it is not refused; then nothing is shown.
+    // Makes a change, where it is not refused; then nothing is shown.
     fn make_change(&mut self, change: Change) -> Result<(), Fault>
         ensures { CallOn N.Price.Price.kind N.Netlist.meaning (making change) self.old self.new (of_change result) }
     {

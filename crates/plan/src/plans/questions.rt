@@ -21,7 +21,7 @@ impl<N: Netlist> Plan<N> {
         self.shown
     }
 
-    /// The netlist below with the standing changes applied.
+    // The netlist below with the standing changes applied.
     pub(crate) fn standing(&self) -> MuteLayer<StrapLayer<Lent<'_, N>>>
         ensures { standing_meaning N.Netlist.meaning result ≡ plan_meaning N.Netlist.meaning self.now }
     {

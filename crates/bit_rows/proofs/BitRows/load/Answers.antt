@@ -1,7 +1,8 @@
 use Rattle.std.proofs.Common.{ℕ, length, subst}
 use Rattle.bottom.specs.LoadFaults.{pins_fault}
 use Rattle.bottom.specs.Fitting.{PinsThere}
-use Rattle.bottom.proofs.FirstFaults.{accepted, counts_accepted, pins_there}
+use Rattle.refusal.proofs.CheckLaws.{accepted}
+use Rattle.bottom.proofs.FirstFaults.{counts_accepted, pins_there}
 use Rattle.bit_rows.specs.Rows.{row_pins}
 use Rattle.bit_rows.proofs.BitRows.load.Goals as goal
 

@@ -1,7 +1,7 @@
 use Rattle.std.proofs.Common.{◌<◌, ◌≤◌, length, ap, ◌∙◌, rules, tests}
 use Rattle.std.proofs.lemmas.Iterator.{IsFirst-from_position, YieldsList-from_slice}
 use Rattle.moduleset.specs.Words.{members}
-use Rattle.bottom.specs.LoadFaults.{checked}
+use Rattle.refusal.specs.Checks.{checked}
 use Rattle.bit_rows.proofs.RowChecked.{few_found}
 use Rattle.bit_rows.proofs.load.check_pin_counts.Goals as goal
 

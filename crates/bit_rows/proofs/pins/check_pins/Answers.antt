@@ -1,8 +1,8 @@
 use Rattle.std.proofs.Common.{ℕ, length, sym, ap, arith}
 use Rattle.std.proofs.lemmas.Result.{err_from_is_err_and}
-use Rattle.bottom.specs.LoadFaults.{checked, net_fault}
-use Rattle.refusal.proofs.CheckLaws.{first_more, first_at}
-use Rattle.bottom.proofs.FirstFaults.{accepted, refused}
+use Rattle.refusal.specs.Checks.{checked}
+use Rattle.bottom.specs.LoadFaults.{net_fault}
+use Rattle.refusal.proofs.CheckLaws.{accepted, refused, first_more, first_at}
 use Rattle.bit_rows.specs.Rows.{row_pins}
 use Rattle.bit_rows.proofs.pins.check_pins.Goals as goal
 

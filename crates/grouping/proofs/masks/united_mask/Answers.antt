@@ -1,4 +1,4 @@
-use Rattle.std.proofs.Common.{ℕ, max, ap, subst, sym, ◌∙◌, ◌<◌, ◌≡◌}
+use Rattle.std.proofs.Common.{ℕ, ap, subst, sym, ◌∙◌}
 use Rattle.moduleset.specs.Words.{has as is_in, opened_at}
 use Rattle.grouping.specs.Masks.{AlsoHas}
 use Rattle.grouping.proofs.UnitedSets.{united_with, united_without}

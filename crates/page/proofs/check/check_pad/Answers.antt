@@ -1,6 +1,6 @@
 use Rattle.std.proofs.Common.{◌≡◌, ◌∙◌, arith}
 use Rattle.std.proofs.lemmas.Bool.{lt-ltb, le-ltb}
-use Rattle.refusal.proofs.CheckLaws.{fault_if_true, fault_if_false}
+use Rattle.refusal.proofs.CheckLaws.{then_some_true, then_some_false}
 use Rattle.page.specs.Faults.{bytes_to}
 use Rattle.page.proofs.PadLaws.{pad_set, pad_clear}
 use Rattle.page.proofs.check.check_pad.Goals as goal
@@ -14,9 +14,9 @@ returns-in-Some c =
 pub returns-then-bytes-size : goal.returns-then-bytes-size
 returns-then-bytes-size c =
     let size : c.div_ceil-size.result ≡ bytes_to c.args.end = omega arith in
-    rw size (record { cases = pad_clear c.args.bytes.now c.args.end (rw size at c.in_default.ensures) ∙ fault_if_true _ _ (lt-ltb _ _ (omega arith)) })
+    rw size (record { cases = pad_clear c.args.bytes.now c.args.end (rw size at c.in_default.ensures) ∙ then_some_true _ _ (lt-ltb _ _ (omega arith)) })
 
 pub returns : goal.returns
 returns c =
     let size : c.div_ceil-size.result ≡ bytes_to c.args.end = omega arith in
-    record { cases = pad_clear c.args.bytes.now c.args.end (rw size at c.in_default.ensures) ∙ fault_if_false _ _ (le-ltb _ _ (omega arith)) }
+    record { cases = pad_clear c.args.bytes.now c.args.end (rw size at c.in_default.ensures) ∙ then_some_false _ _ (le-ltb _ _ (omega arith)) }

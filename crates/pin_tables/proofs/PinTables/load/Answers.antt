@@ -1,6 +1,7 @@
 use Rattle.std.proofs.Common.{◌≡◌, ◌-◌, length, arith}
 use Rattle.bottom.specs.LoadFaults.{pins_fault}
-use Rattle.bottom.proofs.FirstFaults.{accepted, counts_accepted, pins_there, few_pins}
+use Rattle.refusal.proofs.CheckLaws.{accepted}
+use Rattle.bottom.proofs.FirstFaults.{counts_accepted, pins_there, few_pins}
 use Rattle.pin_tables.specs.Tables.{net_pins}
 use Rattle.pin_tables.proofs.TablesAccepted.{tables_agree, tables_rise}
 use Rattle.pin_tables.proofs.PinTables.load.Goals as goal

@@ -1,6 +1,6 @@
 use Rattle.std.proofs.Common.{◌+◌, ◌<◌, ◌≤◌, drop, ap, ◌∙◌, rules, tests}
 use Rattle.std.proofs.lemmas.Iterator.{IsFirst-from_position, YieldsList-from_zip, YieldsList-from_slice}
-use Rattle.bottom.specs.LoadFaults.{checked}
+use Rattle.refusal.specs.Checks.{checked}
 use Rattle.pin_tables.proofs.StartPairs.{tail, few_found}
 use Rattle.pin_tables.proofs.load.check_pin_counts.Goals as goal
 

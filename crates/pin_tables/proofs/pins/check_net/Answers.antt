@@ -1,9 +1,10 @@
 use Rattle.std.proofs.Common.{◌≡◌, ℕ, false, eqb, length, get_or, sym, refl, ap, ◌∙◌, subst, arith}
 use Rattle.std.proofs.lemmas.List.{get_or-take, length-take-le}
 use Rattle.std.proofs.lemmas.Bool.{ne_eqb}
-use Rattle.bottom.specs.LoadFaults.{pin_fault, some_below, repeats, checked}
-use Rattle.refusal.proofs.CheckLaws.{first_none, first_more, first_at}
-use Rattle.bottom.proofs.FirstFaults.{some_none, some_more, pin_missing, pin_repeated, pin_fine}
+use Rattle.refusal.specs.Checks.{some_below, checked}
+use Rattle.bottom.specs.LoadFaults.{pin_fault, repeats}
+use Rattle.refusal.proofs.CheckLaws.{some_none, some_more, first_none, first_more, first_at}
+use Rattle.bottom.proofs.FirstFaults.{pin_missing, pin_repeated, pin_fine}
 use Rattle.pin_tables.proofs.pins.check_net.Goals as goal
 
 pub positions-init : goal.positions-init

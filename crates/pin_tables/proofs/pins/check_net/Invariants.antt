@@ -1,6 +1,6 @@
 use Rattle.std.proofs.Common.{◌≡◌, false, eqb, get_or, None, Ok}
-use Rattle.refusal.specs.Checks.{first_fault}
-use Rattle.bottom.specs.LoadFaults.{pin_fault, some_below}
+use Rattle.refusal.specs.Checks.{some_below, first_fault}
+use Rattle.bottom.specs.LoadFaults.{pin_fault}
 use Rattle.pin_tables.proofs.pins.check_net.Given as goal
 
 abbrev pub invariant-positions : goal.invariant-positions

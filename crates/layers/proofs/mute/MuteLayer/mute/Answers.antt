@@ -1,4 +1,5 @@
 use Rattle.std.proofs.Common.{refl, ap, arith}
+use Rattle.refusal.proofs.CheckLaws.{accepted}
 use Rattle.layers.specs.Layered.{mute_meaning}
 use Rattle.layers.proofs.Refused.{unmuted_there}
 use Rattle.layers.proofs.Muting.{one_more_by_row}
@@ -9,7 +10,7 @@ bounds-self-net g c =
     let layer = c.args.self.now in
     omega (
       arith,
-      unmuted_there (mute_meaning g.N.Netlist.meaning layer) c.args.net c.in_ok-check_unmuted.ensures,
+      unmuted_there (mute_meaning g.N.Netlist.meaning layer) c.args.net (accepted _ _ c.in_ok-check_unmuted.ensures),
       (g.N.Netlist.sound layer.below).few_nets,
     )
 
@@ -18,7 +19,7 @@ returns g c =
     let layer = c.args.self.now in
     let below = g.N.Netlist.meaning layer.below in
     let few = (g.N.Netlist.sound layer.below).few_nets in
-    let free = c.in_ok-check_unmuted.ensures in
+    let free = accepted _ _ c.in_ok-check_unmuted.ensures in
     let there = unmuted_there (mute_meaning g.N.Netlist.meaning layer) c.args.net free in
     record {
       mutes = (

@@ -3,10 +3,10 @@ use Rattle.std.specs.List.{AllByRecursion}
 use Rattle.partition.proofs.round.Round.order.Goals.{else-loop-byte-test, then-loop-byte-test+in_default}
 use Rattle.std.proofs.lemmas.List.{length-set, length-take-le, length-drop}
 use Rattle.netlist.specs.Nets.{OnPins}
-use Rattle.cut.specs.Cuts.{split_price, alone}
-use Rattle.cut.specs.Orders.{order, ending}
+use Rattle.cut.specs.Orders.{order}
 use Rattle.grouping.specs.Masks.{grouped}
 use Rattle.grouping.proofs.OwnNets.{grouped_there}
+use Rattle.partition.specs.Orders.{last_price}
 use Rattle.partition.proofs.Turns.{Turn, taken_start, rest_back, turn_start, turn_left, turn_next, turn_bytes, turn_price}
 use Rattle.partition.proofs.round.Round.order.Goals as goal
 
@@ -62,5 +62,5 @@ returns g c =
     record {
       order = written;
       cells = c.clear.ensures ∙ ap (λ (n : ℕ). replicate n k.zero) (c.loop-byte-test.auto.cells ∙ c.requires.room);
-      price = turn_price k l nets m taken price bytes round.several there turn ∙ ap (λ xs. split_price k (alone (ending xs).last) nets) (sym written);
+      price = turn_price k l nets m taken price bytes round.several there turn ∙ ap (last_price k nets) (sym written);
     }

@@ -13,8 +13,8 @@ returns g c =
     let ordered = c.order-price.ensures in
     record {
       noted = noted_is k l m round.groups.row c.order-price.new.bytes round.count round.several ordered.order c.group_set.result.word c.order-price.result ordered.price c.group_set.ensures;
-      next = next_is k l m round.groups.row c.order-price.new.bytes round.count round.several ordered.order c.united.result.row c.united.ensures.row;
+      united = next_is k l m round.groups.row c.order-price.new.bytes round.count round.several ordered.order c.united.result.row c.united.ensures.row;
       nets = subst (λ row. MasksOf (map (λ mask. mask.word) c.united.result.masks) (grouped k m row)) (sym c.united.ensures.row)
           (masks_united k m _ _ round.groups.row _ _ (g.N.Netlist.sound round.netlist.now).few_nets c.united.ensures.nets round.nets);
-      cells = ap (λ xs. xs ++ drop round.count c.args.cells.now) ordered.cells;
+      zeroed = ap (λ xs. xs ++ drop round.count c.args.cells.now) ordered.cells;
     }

@@ -2,7 +2,7 @@ use Rattle.std.proofs.Common.{◌≡◌, length, sym, ap, ◌∙◌, rules}
 use Rattle.std.proofs.lemmas.List.{with_items_is}
 use Rattle.netlist.specs.Meaning.{homes}
 use Rattle.plan.specs.Reckoning.{split, call_of}
-use Rattle.plan.specs.PlanCalls.{refusal_on, cells_left, row_left}
+use Rattle.plan.specs.PlanCalls.{refusal_on, cells_left, row_of, row_left}
 use Rattle.plan.proofs.plans.Plan.ask.Goals as goal
 
 pub returns-in-Split : goal.returns-in-Split
@@ -25,6 +25,6 @@ returns-in-Split g c =
             ∙ (c.split.ensures.cells
             ∙ (ap (λ cells. cells_left k (refusal_on means plan (split (length cells))) count cells) given
             ∙ (ap (λ n. cells_left k (refusal_on means plan (split n)) count v.items) long
-            ∙ sym (ap (λ call. row_left k (refusal_on means plan (call_of call)) count call) c.in-Split.is))));
+            ∙ sym (ap (λ call. row_left k (refusal_on means plan (call_of call)) count (call_of call) (row_of call)) c.in-Split.is))));
       };
     }
