@@ -1,6 +1,4 @@
 //! Packs the fields of a page, most significant bit first: written apart from the page crate, so that it tests it.
-ghost use Rattle.std.specs.Prelude.{◌≤◌};
-
 use std::alloc::{AllocError, Global};
 
 // A field: its number and its width in bits.

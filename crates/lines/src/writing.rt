@@ -17,7 +17,7 @@ pub enum Line {
     Refused { fault: Fault },
     /// The page was refused.
     PageRefused { fault: Fault },
-    /// The script is longer than the program reads.
+    /// The script has more than 65,536 bytes.
     ScriptTooLong,
 }
 
@@ -33,8 +33,8 @@ impl From<Fault> for Line {
 }
 
 impl Line {
-    // `Display` and `write!` into a string of fixed capacity: tried, and that this never fails stayed open.
     // The bytes of the line, byte 0x0A at its end.
+    // Not by `Display` and `write!` into a string of fixed capacity: that this never fails could not be shown.
     fn bytes(self) -> LineBytes
         ensures { result.items ≡ line_bytes self }
     {
@@ -94,7 +94,7 @@ fn found(sides: u64, word: u64) -> Body
     line
 }
 
-// A refused call.
+// The line of a refused call, without its byte 0x0A.
 fn refused(fault: Fault) -> Body
     ensures { result.items ++ newline ≡ refused_line fault }
 {
@@ -104,7 +104,7 @@ fn refused(fault: Fault) -> Body
     line
 }
 
-// A refused page.
+// The line of a refused page, without its byte 0x0A.
 fn page_refused(fault: Fault) -> Body
     ensures { result.items ++ newline ≡ page_line fault }
 {

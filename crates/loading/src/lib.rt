@@ -14,7 +14,6 @@ use refusal::Fault;
 ///
 /// Refuses tables that are shorter than that (10: starts, pins, prices), and then what loading them refuses.
 /// What `unpack_page` has filled is never refused, and means the page's nets.
-// The tables as the caller hands them in.
 pub fn load_unpacked<'a, P: Price>(
     tables: &mut PinTables<'a, P>,
     counts: Counts,

@@ -1,11 +1,10 @@
 //! What a netlist answers, asked whole: each test names the lists that it should give.
+//! Over any netlist: a proof that carries the type of four layers, one on the other, takes minutes.
 use netlist::Netlist;
 use price::values::Wires;
 use std::process::Abort;
 
-// Over any netlist: a proof that carries the type of a pile of layers takes minutes.
-
-/// Each home module has its place, and no other has one.
+// Each home module has its place, and no other has one.
 pub(crate) fn places_are<N: Netlist>(rt: &impl Abort, netlist: &N, places: &[u8]) {
     assert_eq!(rt; netlist.home_count(), places.len());
     for (home, place) in places.iter().enumerate() {
@@ -14,7 +13,7 @@ pub(crate) fn places_are<N: Netlist>(rt: &impl Abort, netlist: &N, places: &[u8]
     assert_eq!(rt; netlist.place(places.len()), None);
 }
 
-/// A net has these pins, and no more.
+// A net has these pins, and no more.
 pub(crate) fn pins_are<N: Netlist>(rt: &impl Abort, netlist: &N, net: usize, pins: &[u8]) {
     assert_eq!(rt; netlist.pin_count(net), Some(pins.len()));
     for (k, pin) in pins.iter().enumerate() {
@@ -23,7 +22,7 @@ pub(crate) fn pins_are<N: Netlist>(rt: &impl Abort, netlist: &N, net: usize, pin
     assert_eq!(rt; netlist.pin(net, pins.len()), None);
 }
 
-/// Each net has its price and says whether it is muted, and no other net is there.
+// Each net has its price and says whether it is muted, and no other net is there.
 pub(crate) fn nets_are<N: Netlist<Price = Wires>>(
     rt: &impl Abort,
     netlist: &N,
@@ -37,7 +36,7 @@ pub(crate) fn nets_are<N: Netlist<Price = Wires>>(
     no_net(rt, netlist, nets.len());
 }
 
-/// A net is not there.
+// A net is not there.
 pub(crate) fn no_net<N: Netlist>(rt: &impl Abort, netlist: &N, net: usize) {
     assert!(rt; netlist.price(net).is_none());
     assert_eq!(rt; netlist.is_muted(net), None);

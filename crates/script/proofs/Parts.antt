@@ -5,11 +5,6 @@ use Rattle.std.proofs.ByRecursion.{All-push}
 use Rattle.std.proofs.lemmas.Fmt.{decimal_by_steps}
 use Rattle.script.specs.Pieces.{Without, Parted}
 
--- a part that has the byte is not without it
-pub has_byte : (byte : ℕ) (before after : List ℕ) → Without byte (before ++ byte ∷ after) → ⊥
-has_byte byte [] after h = h.0 refl
-has_byte byte (b ∷ before) after h = has_byte byte before after h.1
-
 pub record SameParts (before after before' after' : List ℕ) : Type 0 where
   pub front : before ≡ before'
   pub back : after ≡ after'

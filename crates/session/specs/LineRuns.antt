@@ -7,7 +7,7 @@ use Rattle.netlist.specs.Meaning.{Meaning, homes}
 use Rattle.plan.specs.declared.plans.Plan.{Plan}
 use Rattle.plan.specs.declared.calls.Answer.{Answer}
 use Rattle.plan.specs.declared.calls.Answer.TheVariants.{Done, Refused, Found, Absent}
-use Rattle.plan.specs.Reckoning.{Call, strap, mute, take_back, split, look}
+use Rattle.plan.specs.Reckoning.{Call, strap, mute, take_back, split}
 use Rattle.plan.specs.PlanCalls.{refusal_on, CallOn, row_left}
 use Rattle.lines.specs.declared.writing.Line.{Line}
 use Rattle.lines.specs.declared.writing.Line.TheVariants as lines

@@ -59,7 +59,7 @@ impl<N: Netlist> Plan<N> {
         Ok(())
     }
 
-    /// Finds the cheapest lawful split where these changes stand, and shows it. Leaves a zero cell for each home module, and later cells.
+    /// Finds the cheapest lawful split where these changes stand, and shows it. Leaves a zero cell for each home module, and later cells as they were.
     /// Refused: 10 where there are fewer cells than home modules, then 17 where fewer than two groups are left; the cells stay.
     pub fn split(&mut self, cells: &mut [N::Price]) -> Result<FoundSplit<N::Price>, Fault>
         ensures call { CallOn N.Price.Price.kind N.Netlist.meaning (split_call (length cells.old)) self.old self.new (of_split result) }
