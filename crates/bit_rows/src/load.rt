@@ -32,7 +32,7 @@ impl<'a, P: Price> BitRows<'a, P> {
     }
 }
 
-/// Refuses the first net with fewer than two pins.
+// Refuses the first net with fewer than two pins.
 fn check_pin_counts(rows: &[u64]) -> Result<(), Fault>
     ensures { result ≡ checked (few_fault (few rows.now) (length rows.now)) }
 {

@@ -8,7 +8,7 @@ ghost use Rattle.bit_rows.specs.Rows.{row_pins};
 use moduleset::ModuleSet;
 use refusal::{Fault, Place};
 
-/// Refuses the first pin, net by net, that names no module.
+// Refuses the first pin, net by net, that names no module.
 #[tactic(auto, using(refusal::proofs::CheckLaws::first_none))]
 pub(crate) fn check_pins(modules: usize, rows: &[u64]) -> Result<(), Fault>
     requires { modules ≤ 64 }
@@ -20,7 +20,7 @@ pub(crate) fn check_pins(modules: usize, rows: &[u64]) -> Result<(), Fault>
     Ok(())
 }
 
-/// Refuses the first pin of one net that names no module: the pins rise, so those that are modules come first, and none repeats.
+// Refuses the first pin of one net that names no module: the pins rise, so those that are modules come first, and none repeats.
 fn check_net(modules: usize, net: usize, pins: ModuleSet) -> Result<(), Fault>
     requires { modules ≤ 64 }
     ensures { result ≡ checked (net_fault modules net (members pins.word)) }

@@ -22,7 +22,7 @@ impl<'a, P: Price> BitRows<'a, P> {
         }
     }
 
-    /// The pins of a net.
+    // The pins of a net.
     fn pins_of(&self, net: usize) -> Option<ModuleSet>
         ensures { MatchOption result
             (length self.now.prices.now ≤ net)

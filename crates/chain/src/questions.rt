@@ -18,7 +18,7 @@ impl Chain {
         }
     }
 
-    /// The pins of a net: the module of its number and the next.
+    // The pins of a net: the module of its number and the next.
     fn pins_of(&self, net: usize) -> Option<[u8; 2]>
         ensures { MatchOption result
             (self.now.modules - 1 ≤ net)

@@ -57,3 +57,10 @@ impl Packer {
         Ok(bytes)
     }
 }
+
+// The bytes of a page of these fields.
+pub(crate) fn packed(heap: Global, fields: &[Field]) -> Result<Vec<u8>, AllocError> {
+    let mut packer = Packer::new(heap);
+    packer.fields(fields)?;
+    packer.finish()
+}

@@ -1,5 +1,6 @@
 //! Unpacking: every refusal at its bit, and what fills the tables.
-use crate::packing::{Field, Packer};
+use crate::comparing::equal;
+use crate::packing::{Field, Packer, packed};
 use fixtures::small_page::SMALL;
 use fixtures::{number_of, told};
 use page::counts::Counts;
@@ -8,6 +9,8 @@ use page::unpack::unpack_page;
 use price::Price;
 use price::values::{TimersFirst, Widest, Wires};
 use refusal::Place;
+use std::alloc::AllocError;
+use std::fmt::Debug;
 use std::process::Abort;
 use std::test::Fail;
 
@@ -18,9 +21,7 @@ fn fields_refused(
     number: u8,
     bit: usize,
 ) -> Result<(), Fail> {
-    let mut packer = Packer::new(rt.alloc());
-    packer.fields(fields)?;
-    let page = packer.finish()?;
+    let page = packed(rt.alloc(), fields)?;
     bytes_refused(rt, page.as_slice(), number, Place::Bit(bit));
     Ok(())
 }
@@ -29,34 +30,55 @@ fn bytes_refused(rt: &impl Abort, page: &[u8], number: u8, place: Place) {
     let mut starts = [7u32; 4];
     let mut pins = [7u8; 8];
     let mut prices = [Wires { count: 7 }; 4];
-    let answer = unpack_page(page, &mut starts, &mut pins, &mut prices);
-    assert_eq!(rt; told(answer), Some((number, place)));
-    assert_eq!(rt; starts, [7; 4]);
-    assert_eq!(rt; pins, [7; 8]);
-    assert_eq!(rt; prices, [Wires { count: 7 }; 4]);
+    let answer = refusal_of(page, &mut starts, &mut pins, &mut prices);
+    equal(rt, answer, Some((number, place)));
+    holds(rt, &starts, &[7; 4]);
+    holds(rt, &pins, &[7; 8]);
+    holds(rt, &prices, &[Wires { count: 7 }; 4]);
+}
+
+// A table holds just these entries.
+fn holds<T: PartialEq + Debug>(rt: &impl Abort, table: &[T], entries: &[T]) {
+    equal(rt, table, entries);
+}
+
+// How unpacking is refused, if it is.
+fn refusal_of<P: Price>(
+    page: &[u8],
+    starts: &mut [u32],
+    pins: &mut [u8],
+    prices: &mut [P],
+) -> Option<(u8, Place)> {
+    told(unpack_page(page, starts, pins, prices))
+}
+
+// A page is unpacked, and has these counts.
+fn unpacks<P: Price>(
+    rt: &impl Abort,
+    page: &[u8],
+    starts: &mut [u32],
+    pins: &mut [u8],
+    prices: &mut [P],
+    counts: Counts,
+) {
+    equal(rt, unpack_page(page, starts, pins, prices), Ok(counts));
 }
 
 #[test]
-fn the_small_page_unpacks(rt: HostRuntime) -> Result<(), Fail> {
+fn the_small_page_unpacks(rt: HostRuntime) {
     let mut starts = [7u32; 4];
     let mut pins = [7u8; 6];
     let mut prices = [Wires { count: 7 }; 3];
-    let counts = unpack_page(&SMALL, &mut starts, &mut pins, &mut prices)?;
-    assert_eq!(rt;
-        counts,
-        Counts {
-            modules: 3,
-            nets: 2,
-            pins: 4,
-        }
-    );
-    assert_eq!(rt; starts, [0, 2, 4, 7]);
-    assert_eq!(rt; pins, [0, 1, 1, 2, 7, 7]);
-    assert_eq!(rt;
-        prices,
-        [Wires { count: 5 }, Wires { count: 3 }, Wires { count: 7 }]
-    );
-    Ok(())
+    let counts = Counts {
+        modules: 3,
+        nets: 2,
+        pins: 4,
+    };
+    unpacks(&rt, &SMALL, &mut starts, &mut pins, &mut prices, counts);
+    holds(&rt, &starts, &[0, 2, 4, 7]);
+    holds(&rt, &pins, &[0, 1, 1, 2, 7, 7]);
+    let filled = [Wires { count: 5 }, Wires { count: 3 }, Wires { count: 7 }];
+    holds(&rt, &prices, &filled);
 }
 
 #[test]
@@ -90,9 +112,10 @@ fn another_kind_than_wanted(rt: HostRuntime) -> Result<(), Fail> {
     fields_refused(&rt, &[(2, 4), (3, 7), (0, 11)], 2, 0)?;
     fields_refused(&rt, &[(15, 4)], 2, 0)?;
     let mut prices = [Widest { width: 7 }; 2];
-    assert_eq!(rt;
-        told(unpack_page(&SMALL, &mut [0; 3], &mut [0; 4], &mut prices)),
-        Some((2, Place::Bit(0)))
+    equal(
+        &rt,
+        refusal_of(&SMALL, &mut [0; 3], &mut [0; 4], &mut prices),
+        Some((2, Place::Bit(0))),
     );
     Ok(())
 }
@@ -202,55 +225,60 @@ fn bits_and_bytes_after_the_last_net(rt: HostRuntime) -> Result<(), Fail> {
     fields_refused(&rt, &[WIRES, (0, 7), (0, 11), (3, 2)], 9, 22)?;
     fields_refused(&rt, &[WIRES, (0, 7), (0, 11), (0, 2), (0, 8)], 9, 24)?;
     fields_refused(&rt, &[WIRES, (0, 7), (0, 11), (1, 2), (0, 8)], 9, 23)?;
-    let mut packer = Packer::new(rt.alloc());
-    packer.fields(&empty)?;
     let mut starts = [7u32; 2];
     let mut prices = [Wires { count: 7 }; 1];
-    let counts = unpack_page(
-        packer.finish()?.as_slice(),
+    let page = packed(rt.alloc(), &empty)?;
+    let counts = Counts {
+        modules: 0,
+        nets: 0,
+        pins: 0,
+    };
+    unpacks(
+        &rt,
+        page.as_slice(),
         &mut starts,
         &mut [],
         &mut prices,
-    )?;
-    assert_eq!(rt;
         counts,
-        Counts {
-            modules: 0,
-            nets: 0,
-            pins: 0,
-        }
     );
-    assert_eq!(rt; starts, [0, 7]);
+    holds(&rt, &starts, &[0, 7]);
+    Ok(())
+}
+
+// The small page is unpacked into tables with this room, or refused so.
+fn small_with_room(
+    rt: &(impl Abort + AllocGlobal),
+    starts: usize,
+    pins: usize,
+    prices: usize,
+    refusal: Option<(u8, Place)>,
+) -> Result<(), AllocError> {
+    let mut starts = vec![in rt.alloc(); 7u32; starts]?;
+    let mut pins = vec![in rt.alloc(); 7u8; pins]?;
+    let mut prices = vec![in rt.alloc(); Wires { count: 7 }; prices]?;
+    let answer = refusal_of(
+        &SMALL,
+        starts.as_mut_slice(),
+        pins.as_mut_slice(),
+        prices.as_mut_slice(),
+    );
+    equal(rt, answer, refusal);
     Ok(())
 }
 
 #[test]
-fn tables_one_entry_short(rt: HostRuntime) {
-    let mut two = [Wires { count: 7 }; 2];
-    let mut one = [Wires { count: 7 }; 1];
-    assert_eq!(rt;
-        told(unpack_page(&SMALL, &mut [7; 2], &mut [7; 4], &mut two)),
-        Some((10, Place::Table(1)))
-    );
-    assert_eq!(rt;
-        told(unpack_page(&SMALL, &mut [7; 3], &mut [7; 3], &mut two)),
-        Some((10, Place::Table(2)))
-    );
-    assert_eq!(rt;
-        told(unpack_page(&SMALL, &mut [7; 3], &mut [7; 4], &mut one)),
-        Some((10, Place::Table(3)))
-    );
-    assert_eq!(rt;
-        told(unpack_page(&SMALL, &mut [7; 2], &mut [7; 3], &mut one)),
-        Some((10, Place::Table(1)))
-    );
-    assert!(rt; unpack_page(&SMALL, &mut [7; 3], &mut [7; 4], &mut two).is_ok());
+fn tables_one_entry_short(rt: HostRuntime) -> Result<(), Fail> {
+    small_with_room(&rt, 2, 4, 2, Some((10, Place::Table(1))))?;
+    small_with_room(&rt, 3, 3, 2, Some((10, Place::Table(2))))?;
+    small_with_room(&rt, 3, 4, 1, Some((10, Place::Table(3))))?;
+    small_with_room(&rt, 2, 3, 1, Some((10, Place::Table(1))))?;
+    small_with_room(&rt, 3, 4, 2, None)?;
+    Ok(())
 }
 
 #[test]
 fn timers_first_unpacks(rt: HostRuntime) -> Result<(), Fail> {
-    let mut packer = Packer::new(rt.alloc());
-    packer.fields(&[
+    let fields = [
         (2, 4),
         (2, 7),
         (1, 11),
@@ -258,37 +286,38 @@ fn timers_first_unpacks(rt: HostRuntime) -> Result<(), Fail> {
         (1, 6),
         (0, 6),
         (0x0001_0002, 32),
-    ])?;
-    let page = packer.finish()?;
+    ];
+    let page = packed(rt.alloc(), &fields)?;
     let mut pins = [7u8; 2];
     let mut prices = [TimersFirst {
         timers: 7,
         wires: 7,
     }; 1];
-    let counts = unpack_page(page.as_slice(), &mut [7; 2], &mut pins, &mut prices)?;
-    assert_eq!(rt;
+    let counts = Counts {
+        modules: 2,
+        nets: 1,
+        pins: 2,
+    };
+    unpacks(
+        &rt,
+        page.as_slice(),
+        &mut [7; 2],
+        &mut pins,
+        &mut prices,
         counts,
-        Counts {
-            modules: 2,
-            nets: 1,
-            pins: 2,
-        }
     );
-    assert_eq!(rt; pins, [1, 0]);
-    assert_eq!(rt;
-        prices,
-        [TimersFirst {
-            timers: 1,
-            wires: 2,
-        }]
-    );
+    holds(&rt, &pins, &[1, 0]);
+    let price = TimersFirst {
+        timers: 1,
+        wires: 2,
+    };
+    holds(&rt, &prices, &[price]);
     Ok(())
 }
 
 #[test]
 fn widest_unpacks(rt: HostRuntime) -> Result<(), Fail> {
-    let mut packer = Packer::new(rt.alloc());
-    packer.fields(&[
+    let fields = [
         (3, 4),
         (2, 7),
         (1, 11),
@@ -296,30 +325,32 @@ fn widest_unpacks(rt: HostRuntime) -> Result<(), Fail> {
         (0, 6),
         (1, 6),
         (u32::MAX, 32),
-    ])?;
+    ];
+    let page = packed(rt.alloc(), &fields)?;
     let mut prices = [Widest { width: 7 }; 1];
-    assert!(rt;
-        unpack_page(
-            packer.finish()?.as_slice(),
-            &mut [7; 2],
-            &mut [7; 2],
-            &mut prices,
-        )
-        .is_ok()
-    );
-    assert_eq!(rt; prices, [Widest { width: 4294967295 }]);
+    let answer = refusal_of(page.as_slice(), &mut [7; 2], &mut [7; 2], &mut prices);
+    equal(&rt, answer, None);
+    holds(&rt, &prices, &[Widest { width: 4294967295 }]);
     Ok(())
+}
+
+fn kind_is(rt: &impl Abort, page: &[u8], kind: KnownKind) {
+    equal(rt, known_kind(page), Ok(kind));
+}
+
+fn kind_refused(rt: &impl Abort, page: &[u8], number: u8) {
+    equal(rt, number_of(known_kind(page)), Some(number));
 }
 
 #[test]
 fn the_kind_that_a_page_names(rt: HostRuntime) {
-    assert_eq!(rt; known_kind(&[0x10]), Ok(KnownKind::Wires));
-    assert_eq!(rt; known_kind(&[0x2f, 0xff]), Ok(KnownKind::TimersFirst));
-    assert_eq!(rt; known_kind(&[0x3f]), Ok(KnownKind::Widest));
+    kind_is(&rt, &[0x10], KnownKind::Wires);
+    kind_is(&rt, &[0x2f, 0xff], KnownKind::TimersFirst);
+    kind_is(&rt, &[0x3f], KnownKind::Widest);
     for byte in [0x00, 0x40, 0xf0] {
-        assert_eq!(rt; number_of(known_kind(&[byte])), Some(2));
+        kind_refused(&rt, &[byte], 2);
     }
-    assert_eq!(rt; number_of(known_kind(&[])), Some(1));
+    kind_refused(&rt, &[], 1);
 }
 
 // 64 modules and 1,024 nets of 64 pins each, at prices that rise by three; the pins of net i begin with module i modulo 64.
@@ -336,36 +367,56 @@ fn longest_page(rt: &HostRuntime) -> Result<Vec<u8>, Fail> {
     Ok(packer.finish()?)
 }
 
-#[test]
-fn the_longest_page_unpacks(rt: HostRuntime) -> Result<(), Fail> {
-    let mut page = longest_page(&rt)?;
-    assert_eq!(rt; page.len(), 54147);
+// The longest page's starts: each net has 64 pins.
+fn starts_by_64(rt: &impl Abort, starts: &[u32]) {
+    for (i, start) in starts.iter().enumerate() {
+        equal(rt, *start as usize, i.wrapping_mul(64));
+    }
+}
+
+// Its pins: those of net i begin with module i modulo 64.
+fn pins_go_round(rt: &impl Abort, pins: &[u8]) {
+    for (k, pin) in pins.iter().enumerate() {
+        equal(rt, *pin as usize, (k / 64 + k % 64) % 64);
+    }
+}
+
+// Its prices.
+fn prices_by_three(rt: &impl Abort, prices: &[Wires]) {
+    for (i, price) in prices.iter().enumerate() {
+        equal(rt, price.count, (i as u64).wrapping_mul(3));
+    }
+}
+
+// The longest page, unpacked into tables of just its size.
+fn longest_unpacks(rt: &(impl Abort + AllocGlobal), page: &[u8]) -> Result<(), Fail> {
     let mut starts = vec![in rt.alloc(); 7u32; 1025]?;
     let mut pins = vec![in rt.alloc(); 99u8; 65536]?;
     let mut prices = vec![in rt.alloc(); Wires { count: 1 }; 1024]?;
-    let counts = unpack_page(
-        page.as_slice(),
+    let counts = Counts {
+        modules: 64,
+        nets: 1024,
+        pins: 65536,
+    };
+    unpacks(
+        rt,
+        page,
         starts.as_mut_slice(),
         pins.as_mut_slice(),
         prices.as_mut_slice(),
-    )?;
-    assert_eq!(rt;
         counts,
-        Counts {
-            modules: 64,
-            nets: 1024,
-            pins: 65536,
-        }
     );
-    for (i, start) in starts.iter().enumerate() {
-        assert_eq!(rt; *start as usize, i.wrapping_mul(64));
-    }
-    for (k, pin) in pins.iter().enumerate() {
-        assert_eq!(rt; *pin as usize, (k / 64 + k % 64) % 64);
-    }
-    for (i, price) in prices.iter().enumerate() {
-        assert_eq!(rt; price.count, (i as u64).wrapping_mul(3));
-    }
+    starts_by_64(rt, starts.as_slice());
+    pins_go_round(rt, pins.as_slice());
+    prices_by_three(rt, prices.as_slice());
+    Ok(())
+}
+
+#[test]
+fn the_longest_page_unpacks(rt: HostRuntime) -> Result<(), Fail> {
+    let mut page = longest_page(&rt)?;
+    equal(&rt, page.len(), 54147);
+    longest_unpacks(&rt, page.as_slice())?;
     page.push(0)?;
     bytes_refused(&rt, page.as_slice(), 9, Place::Bit(433176));
     Ok(())

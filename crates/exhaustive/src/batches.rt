@@ -12,41 +12,41 @@ use crate::trial::Trial;
 use price::Price;
 use std::alloc::{AllocError, Global};
 
-/// Small netlists are drawn with 0 to 7 modules, in turn.
+// Small netlists are drawn with 0 to 7 modules, in turn.
 const MODULE_COUNTS: u32 = 8;
 
-/// And for 0 to 10 nets.
+// And for 0 to 10 nets.
 const NET_COUNTS: u32 = 11;
 
-/// A round of cases has each number of modules once with each number of nets.
+// A round of cases has each number of modules once with each number of nets.
 const ROUND: u32 = MODULE_COUNTS * NET_COUNTS;
 
-/// How many small netlists of each kind are drawn.
+// How many small netlists of each kind are drawn.
 const DRAWN: u32 = ROUND * 10;
 
-/// How many lists of calls are run in each kind over such netlists, and of how many calls: a round over the netlists alone,
-/// one over straps and mutes, and one over straps and mutes with room for fewer answers.
+// How many lists of calls are run in each kind over such netlists, and of how many calls: a round over the netlists alone,
+// one over straps and mutes, and one over straps and mutes with room for fewer answers.
 const LISTS: u32 = ROUND * 3;
 
 const CALLS: usize = 40;
 
-/// The first round over straps and mutes, also of the lists that fill the plan.
+// The first round over straps and mutes, also of the lists that fill the plan.
 const FIRST_LAYERED: u32 = 1;
 
-/// The first round with room for fewer answers, and for how many.
+// The first round with room for fewer answers, and for how many.
 const FIRST_SHORT: u32 = 2;
 
 const SHORT_ROOM: usize = 30;
 
-/// How many lists of calls fill the plan: over each number of modules from 2 to 7 one over the netlist alone and one over straps and mutes.
-/// Before and after the calls that fill it as many come as above.
+// How many lists of calls fill the plan: over each number of modules from 2 to 7 one over the netlist alone and one over straps and mutes.
+// Before and after the calls that fill it as many come as above.
 const LONG_LISTS: u32 = LONG_ROUND * 2;
 
 const LONG_ROUND: u32 = 6;
 
 const LONG_NETS: usize = 70;
 
-/// Tries all that is tried in one kind.
+// Tries all that is tried in one kind.
 pub(crate) fn try_kind<K: Kind>(
     report: &mut Report<'_>,
     five_prices: &[K; 5],
@@ -57,7 +57,7 @@ pub(crate) fn try_kind<K: Kind>(
     try_long_runs::<K>(report)
 }
 
-/// The five-module netlist in every case.
+// The five-module netlist in every case.
 fn try_five<K: Kind>(report: &mut Report<'_>, prices: &[K; 5]) -> anyhow::Result<()> {
     let batch = "five modules";
     let mut tally = NetlistTally::default();
@@ -69,7 +69,7 @@ fn try_five<K: Kind>(report: &mut Report<'_>, prices: &[K; 5]) -> anyhow::Result
     report.show_netlists::<K>(batch, tally)
 }
 
-/// Netlists that are drawn.
+// Netlists that are drawn.
 fn try_drawn<K: Kind>(report: &mut Report<'_>) -> anyhow::Result<()> {
     let batch = "drawn netlists";
     let mut tally = NetlistTally::default();
@@ -82,7 +82,7 @@ fn try_drawn<K: Kind>(report: &mut Report<'_>) -> anyhow::Result<()> {
     report.show_netlists::<K>(batch, tally)
 }
 
-/// Lists of calls over such netlists.
+// Lists of calls over such netlists.
 fn try_runs<K: Kind>(report: &mut Report<'_>) -> anyhow::Result<()> {
     let batch = "runs";
     let mut tally = RunTally::default();
@@ -104,7 +104,7 @@ fn try_runs<K: Kind>(report: &mut Report<'_>) -> anyhow::Result<()> {
     report.show_runs::<K>(batch, tally)
 }
 
-/// Lists that fill the plan.
+// Lists that fill the plan.
 fn try_long_runs<K: Kind>(report: &mut Report<'_>) -> anyhow::Result<()> {
     let batch = "long runs";
     let mut tally = RunTally::default();
@@ -124,7 +124,7 @@ fn try_long_runs<K: Kind>(report: &mut Report<'_>) -> anyhow::Result<()> {
     report.show_runs::<K>(batch, tally)
 }
 
-/// A netlist of the size that the case has in its round. Below two modules it has no nets, whatever that size says.
+// A netlist of the size that the case has in its round. Below two modules it has no nets, whatever that size says.
 fn drawn_small<K: Kind>(
     heap: Global,
     random: &mut Random,
@@ -135,7 +135,7 @@ fn drawn_small<K: Kind>(
     drawn_trial(heap, random, modules as usize, nets as usize)
 }
 
-/// The straps and mutes that are tried below a run; absent where it is over the netlist alone.
+// The straps and mutes that are tried below a run; absent where it is over the netlist alone.
 fn drawn_below<P: Price>(
     heap: Global,
     random: &mut Random,
@@ -148,7 +148,7 @@ fn drawn_below<P: Price>(
     Ok(Some(drawn_tries(heap, random, trial)?))
 }
 
-/// One netlist with straps and mutes.
+// One netlist with straps and mutes.
 fn try_netlist<K: Kind>(
     report: &mut Report<'_>,
     batch: &str,
@@ -163,7 +163,7 @@ fn try_netlist<K: Kind>(
     Ok(agreement)
 }
 
-/// One list of calls.
+// One list of calls.
 fn try_run<K: Kind>(
     report: &mut Report<'_>,
     batch: &str,

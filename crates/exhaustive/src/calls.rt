@@ -7,7 +7,7 @@ use plan::calls::Asked;
 use price::Price;
 use std::alloc::{AllocError, Global};
 
-/// A call on a plan; a split with so many cells.
+// A call on a plan; a split with so many cells.
 #[derive(Clone, Copy)]
 pub(crate) enum Call {
     Strap(usize, usize),
@@ -18,7 +18,7 @@ pub(crate) enum Call {
 }
 
 impl Call {
-    /// The call as the product is asked it.
+    // The call as the product is asked it.
     pub(crate) fn asked<P: Price>(self, heap: Global) -> Result<Asked<P>, AllocError> {
         Ok(match self {
             Call::Strap(a, b) => Asked::Strap(a, b),
@@ -29,7 +29,7 @@ impl Call {
         })
     }
 
-    /// A call of any sort over the trial's netlist. Some splits have too few cells.
+    // A call of any sort over the trial's netlist. Some splits have too few cells.
     fn drawn<P: Price>(random: &mut Random, trial: &Trial<P>) -> Call {
         match random.below(9) {
             0 | 1 => {
@@ -45,7 +45,7 @@ impl Call {
     }
 }
 
-/// Adds so many calls of any sort.
+// Adds so many calls of any sort.
 pub(crate) fn drawn_calls<P: Price>(
     random: &mut Random,
     trial: &Trial<P>,
@@ -58,7 +58,7 @@ pub(crate) fn drawn_calls<P: Price>(
     Ok(())
 }
 
-/// Adds a mute of each net with a split or a look after it: where there are more than 64 nets, they do not all find room.
+// Adds a mute of each net with a split or a look after it: where there are more than 64 nets, they do not all find room.
 pub(crate) fn filling_calls<P: Price>(
     trial: &Trial<P>,
     calls: &mut Vec<Call>,

@@ -7,14 +7,14 @@ use crate::trial::{Net, Trial};
 use price::Price;
 use std::alloc::{AllocError, Global};
 
-/// Straps and mutes to be tried, the first ones first; some name what is not there.
+// Straps and mutes to be tried, the first ones first; some name what is not there.
 #[derive(Drop)]
 pub(crate) struct Tries {
     pub(crate) straps: Vec<(usize, usize)>,
     pub(crate) mutes: Vec<usize>,
 }
 
-/// A netlist with so many modules and nets; without nets where there are fewer than two modules.
+// A netlist with so many modules and nets; without nets where there are fewer than two modules.
 pub(crate) fn drawn_trial<K: Kind>(
     heap: Global,
     random: &mut Random,
@@ -34,7 +34,7 @@ pub(crate) fn drawn_trial<K: Kind>(
     Ok(trial)
 }
 
-/// Two to all of the modules, rising from any of them and round again.
+// Two to all of the modules, rising from any of them and round again.
 fn drawn_pins(heap: Global, random: &mut Random, modules: usize) -> Result<Vec<usize>, AllocError>
     requires { 1 < modules }
 {
@@ -50,7 +50,7 @@ fn drawn_pins(heap: Global, random: &mut Random, modules: usize) -> Result<Vec<u
     Ok(pins)
 }
 
-/// Up to seven straps, and up to six mutes.
+// Up to seven straps, and up to six mutes.
 pub(crate) fn drawn_tries<P: Price>(
     heap: Global,
     random: &mut Random,
@@ -70,17 +70,17 @@ pub(crate) fn drawn_tries<P: Price>(
     Ok(tries)
 }
 
-/// The number of a home module, or one that is not there.
+// The number of a home module, or one that is not there.
 pub(crate) fn drawn_module<P: Price>(random: &mut Random, trial: &Trial<P>) -> usize {
     drawn_index(random, trial.modules)
 }
 
-/// The number of a net, or one that is not there.
+// The number of a net, or one that is not there.
 pub(crate) fn drawn_net<P: Price>(random: &mut Random, trial: &Trial<P>) -> usize {
     drawn_index(random, trial.nets.len())
 }
 
-/// A number below the count, or at times the count itself or 65,536, which cut to a byte or two would be 0.
+// A number below the count, or at times the count itself or 65,536, which cut to a byte or two would be 0.
 fn drawn_index(random: &mut Random, count: usize) -> usize {
     let number = random.below(count.saturating_add(2));
     if number > count { 65_536 } else { number }

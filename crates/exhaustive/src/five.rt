@@ -5,13 +5,13 @@ use fixtures::five_modules::{PINS, STARTS};
 use price::Price;
 use std::alloc::{AllocError, Global};
 
-/// Every choice of the pairs, with every choice of the nets.
+// Every choice of the pairs, with every choice of the nets.
 pub(crate) const CASES: u32 = PAIR_CHOICES * NET_CHOICES;
 
-/// Each of ten pairs is chosen or not.
+// Each of ten pairs is chosen or not.
 const PAIR_CHOICES: u32 = 1 << 10;
 
-/// Each of five nets is chosen or not.
+// Each of five nets is chosen or not.
 const NET_CHOICES: u32 = 1 << 5;
 
 const MODULES: usize = 5;
@@ -31,7 +31,7 @@ const PAIRS: [(usize, usize); 10] = [
 
 const NETS: [usize; 5] = [0, 1, 2, 3, 4];
 
-/// The netlist, at these prices.
+// The netlist, at these prices.
 pub(crate) fn five_modules<P: Price>(
     heap: Global,
     prices: &[P; 5],
@@ -48,7 +48,7 @@ pub(crate) fn five_modules<P: Price>(
     Ok(trial)
 }
 
-/// The straps and mutes of a case.
+// The straps and mutes of a case.
 pub(crate) fn tries_of(heap: Global, case: u32) -> Result<Tries, AllocError> {
     Ok(Tries {
         straps: chosen(heap, &PAIRS, case % PAIR_CHOICES)?,
@@ -56,7 +56,7 @@ pub(crate) fn tries_of(heap: Global, case: u32) -> Result<Tries, AllocError> {
     })
 }
 
-/// Those of the items whose bit is 1, the first item's bit the last.
+// Those of the items whose bit is 1, the first item's bit the last.
 fn chosen<T: Copy>(heap: Global, items: &[T], choice: u32) -> Result<Vec<T>, AllocError> {
     let mut chosen = Vec::new(heap);
     let mut rest = choice;

@@ -3,22 +3,22 @@ use crate::random::Random;
 use price::Price;
 use price::values::{TimersFirst, Widest, Wires};
 
-/// From which numbers the prices of one netlist are drawn.
+// From which numbers the prices of one netlist are drawn.
 #[derive(Clone, Copy)]
 pub(crate) enum Spread {
-    /// Zeros and ties.
+    // Zeros and ties.
     Few,
-    /// Mostly different ones.
+    // Mostly different ones.
     Wide,
-    /// Some of which a few joined pass the greatest number.
+    // Some of which a few joined pass the greatest number.
     NearStop,
 }
 
-/// A price kind of which netlists are drawn.
+// A price kind of which netlists are drawn.
 pub(crate) trait Kind: Price {
     const NAME: &'static str;
 
-    /// A price out of the spread.
+    // A price out of the spread.
     fn drawn(random: &mut Random, spread: Spread) -> Self;
 }
 
@@ -67,7 +67,7 @@ fn drawn_part(random: &mut Random, spread: Spread) -> u32 {
     u32::try_from(drawn_number(random, spread, u64::from(u32::MAX))).unwrap_or(u32::MAX)
 }
 
-/// A number up to the stop.
+// A number up to the stop.
 fn drawn_number(random: &mut Random, spread: Spread, stop: u64) -> u64 {
     let small = random.below(3) as u64;
     match spread {

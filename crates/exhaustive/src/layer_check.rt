@@ -13,7 +13,7 @@ use pin_tables::PinTables;
 use price::Price;
 use std::alloc::{AllocError, Global};
 
-/// In what the product and the rules agree over one netlist.
+// In what the product and the rules agree over one netlist.
 #[derive(Clone, Copy)]
 pub(crate) struct Agreement {
     pub(crate) layers: bool,
@@ -21,16 +21,16 @@ pub(crate) struct Agreement {
     pub(crate) order: bool,
 }
 
-/// A netlist with straps and mutes made in layers over it.
+// A netlist with straps and mutes made in layers over it.
 #[derive(Drop)]
 pub(crate) struct Pile<'a, P> {
     pub(crate) top: MuteLayer<StrapLayer<PinTables<'a, P>>>,
-    /// Whether the layers refuse what the rules refuse, by the same numbers.
+    // Whether the layers refuse what the rules refuse, by the same numbers.
     pub(crate) agrees: bool,
 }
 
 impl<'a, P: Price> Pile<'a, P> {
-    /// Tries the straps and then the mutes. In the trial those that the rules accept stand afterwards.
+    // Tries the straps and then the mutes. In the trial those that the rules accept stand afterwards.
     pub(crate) fn over(
         tables: &'a Tables<P>,
         trial: &mut Trial<P>,
@@ -53,7 +53,7 @@ impl Agreement {
     }
 }
 
-/// Piles the straps and mutes that are tried on a netlist, and splits and orders what they leave. In the trial they stand afterwards.
+// Piles the straps and mutes that are tried on a netlist, and splits and orders what they leave. In the trial they stand afterwards.
 pub(crate) fn compare<P: Price>(
     heap: Global,
     trial: &mut Trial<P>,
@@ -68,7 +68,7 @@ pub(crate) fn compare<P: Price>(
     })
 }
 
-/// Makes the straps in the layer and, where the rules accept them, in the trial; whether each is refused in both alike.
+// Makes the straps in the layer and, where the rules accept them, in the trial; whether each is refused in both alike.
 fn strap_all<N: Netlist>(
     layer: &mut StrapLayer<N>,
     trial: &mut Trial<N::Price>,
@@ -85,7 +85,7 @@ fn strap_all<N: Netlist>(
     Ok(agree)
 }
 
-/// Makes the mutes likewise.
+// Makes the mutes likewise.
 fn mute_all<N: Netlist>(
     layer: &mut MuteLayer<N>,
     trial: &mut Trial<N::Price>,
@@ -102,7 +102,7 @@ fn mute_all<N: Netlist>(
     Ok(agree)
 }
 
-/// Whether the product's split is one that the rules allow, and the cells are left as they should be.
+// Whether the product's split is one that the rules allow, and the cells are left as they should be.
 fn split_agrees<N: Netlist>(
     heap: Global,
     trial: &Trial<N::Price>,

@@ -41,7 +41,7 @@ fn main(rt: HostRuntime) -> anyhow::Result<()> {
     report.finish()
 }
 
-/// Prints the order of the five-module netlist in wires. Whether it is that of the rule is told among the cases that follow.
+// Prints the order of the five-module netlist in wires. Whether it is that of the rule is told among the cases that follow.
 fn show_five(report: &Report<'_>, heap: Global) -> anyhow::Result<()> {
     let trial = five_modules(heap, &WIRES)?;
     let tables = Tables::of(heap, &trial)?;

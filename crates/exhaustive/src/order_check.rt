@@ -7,7 +7,7 @@ use price::Price;
 use refusal::Fault;
 use std::alloc::{AllocError, Global};
 
-/// The rows that an order is handed.
+// The rows that an order is handed.
 #[derive(Drop)]
 pub(crate) struct OrderRows<P> {
     pub(crate) cells: Vec<P>,
@@ -15,13 +15,13 @@ pub(crate) struct OrderRows<P> {
 }
 
 impl<P: Price> OrderRows<P> {
-    /// Rows with one place more than there are modules.
+    // Rows with one place more than there are modules.
     pub(crate) fn before(heap: Global, modules: usize) -> Result<OrderRows<P>, AllocError> {
         let room = modules.saturating_add(1);
         OrderRows::sized(heap, room, room)
     }
 
-    /// Rows of so many cells and bytes.
+    // Rows of so many cells and bytes.
     fn sized(heap: Global, cells: usize, bytes: usize) -> Result<OrderRows<P>, AllocError> {
         Ok(OrderRows {
             cells: cells_before(heap, cells)?,
@@ -29,7 +29,7 @@ impl<P: Price> OrderRows<P> {
         })
     }
 
-    /// Orders a netlist into the rows.
+    // Orders a netlist into the rows.
     fn order<N: Netlist<Price = P>>(&mut self, netlist: &N) -> Result<P, Fault> {
         order(
             netlist,
@@ -38,7 +38,7 @@ impl<P: Price> OrderRows<P> {
         )
     }
 
-    /// Whether an order refuses these rows, since this one of them is too short, and leaves both as they were.
+    // Whether an order refuses these rows, since this one of them is too short, and leaves both as they were.
     fn are_refused<N: Netlist<Price = P>>(mut self, netlist: &N, short: usize) -> bool {
         let told = match self.order(netlist) {
             Err(Fault::TooShort { table }) => table == short,
@@ -47,7 +47,7 @@ impl<P: Price> OrderRows<P> {
         told && are_cleared(self.cells.as_slice(), 0) && are_written(self.bytes.as_slice(), &[])
     }
 
-    /// Whether an order may answer so and leave the rows so, by what the netlist's own questions tell.
+    // Whether an order may answer so and leave the rows so, by what the netlist's own questions tell.
     pub(crate) fn agree<N: Netlist<Price = P>>(
         &self,
         heap: Global,
@@ -68,15 +68,15 @@ impl<P: Price> OrderRows<P> {
     }
 }
 
-/// Whether the product orders a netlist as the rule says.
+// Whether the product orders a netlist as the rule says.
 pub(crate) fn order_agrees<N: Netlist>(heap: Global, netlist: &N) -> anyhow::Result<bool> {
     let mut rows = OrderRows::before(heap, netlist.module_count())?;
     let answer = rows.order(netlist);
     rows.agree(heap, netlist, answer)
 }
 
-/// Whether the product refuses rows with one place less than there are modules: the cells are the first table, the bytes the second,
-/// and where both are too short it tells of the first.
+// Whether the product refuses rows with one place less than there are modules: the cells are the first table, the bytes the second,
+// and where both are too short it tells of the first.
 pub(crate) fn short_rows_agree<N: Netlist>(heap: Global, netlist: &N) -> Result<bool, AllocError> {
     let enough = netlist.module_count();
     let Some(few) = enough.checked_sub(1) else {

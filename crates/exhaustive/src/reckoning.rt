@@ -6,17 +6,17 @@ use plan::calls::Answer;
 use price::Price;
 use std::alloc::{AllocError, Global};
 
-/// How many changes a plan holds at most.
+// How many changes a plan holds at most.
 const CHANGES_MOST: usize = 64;
 
-/// A change that was accepted.
+// A change that was accepted.
 #[derive(Clone, Copy)]
 enum Change {
     Strap(usize, usize),
     Mute(usize),
 }
 
-/// The trial with what stands, first what stood below the plan; the accepted changes in turn; and the split that is shown.
+// The trial with what stands, first what stood below the plan; the accepted changes in turn; and the split that is shown.
 #[derive(Drop)]
 pub(crate) struct Reckoning<'a, P> {
     trial: &'a mut Trial<P>,
@@ -25,7 +25,7 @@ pub(crate) struct Reckoning<'a, P> {
 }
 
 impl<'a, P: Price> Reckoning<'a, P> {
-    /// A new plan over what stands in the trial, which holds no change yet.
+    // A new plan over what stands in the trial, which holds no change yet.
     pub(crate) fn over(heap: Global, trial: &'a mut Trial<P>) -> Self {
         Reckoning {
             trial,
@@ -34,7 +34,7 @@ impl<'a, P: Price> Reckoning<'a, P> {
         }
     }
 
-    /// Whether the call may be answered so. Afterwards what the rules accept stands.
+    // Whether the call may be answered so. Afterwards what the rules accept stands.
     pub(crate) fn allows(&mut self, call: Call, answer: Answer<P>) -> Result<bool, AllocError> {
         match call {
             Call::Strap(a, b) => self.allows_change(Change::Strap(a, b), answer),
@@ -53,7 +53,7 @@ impl<'a, P: Price> Reckoning<'a, P> {
         Ok(is_told(answer, refusal))
     }
 
-    /// The number by which a change is refused: by the netlist, then 15 where the plan is full.
+    // The number by which a change is refused: by the netlist, then 15 where the plan is full.
     fn refusal(&self, change: Change) -> Option<u8> {
         let by_netlist = match change {
             Change::Strap(a, b) => self.trial.strap_refusal(a, b),
@@ -86,7 +86,7 @@ impl<'a, P: Price> Reckoning<'a, P> {
         is_told(answer, None)
     }
 
-    /// Of a split: 10 where the cells are too few, else as the rule of splits says of what stands.
+    // Of a split: 10 where the cells are too few, else as the rule of splits says of what stands.
     fn allows_split(&mut self, cells: usize, answer: Answer<P>) -> bool {
         if cells < self.trial.modules {
             return is_told(answer, Some(10));
@@ -111,7 +111,7 @@ impl<'a, P: Price> Reckoning<'a, P> {
     }
 }
 
-/// Whether a change or take back is refused by this number, or done where there is none.
+// Whether a change or take back is refused by this number, or done where there is none.
 fn is_told<P: Price>(answer: Answer<P>, refusal: Option<u8>) -> bool {
     match answer {
         Answer::Done => refusal.is_none(),

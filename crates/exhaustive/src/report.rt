@@ -9,7 +9,7 @@ use price::values::Wires;
 use std::alloc::{AllocError, Global};
 use std::collections::BTreeSet;
 
-/// How many trials disagree so far, and by which numbers calls of runs were refused.
+// How many trials disagree so far, and by which numbers calls of runs were refused.
 #[derive(Drop)]
 pub(crate) struct Report<'a> {
     rt: &'a HostRuntime,
@@ -26,12 +26,12 @@ impl<'a> Report<'a> {
         }
     }
 
-    /// The memory that trials are made in.
+    // The memory that trials are made in.
     pub(crate) fn heap(&self) -> Global {
         self.rt.alloc()
     }
 
-    /// The first line: the order of the five-module netlist in wires, as the product answers it.
+    // The first line: the order of the five-module netlist in wires, as the product answers it.
     pub(crate) fn show_order(&self, bytes: &[u8], price: Wires) -> anyhow::Result<()> {
         print!(self.rt; "five modules: order")?;
         for module in bytes {
@@ -42,7 +42,7 @@ impl<'a> Report<'a> {
         Ok(())
     }
 
-    /// The line of a batch of netlists.
+    // The line of a batch of netlists.
     pub(crate) fn show_netlists<K: Kind>(
         &self,
         batch: &str,
@@ -60,7 +60,7 @@ impl<'a> Report<'a> {
         Ok(())
     }
 
-    /// The line of a batch of runs.
+    // The line of a batch of runs.
     pub(crate) fn show_runs<K: Kind>(&self, batch: &str, tally: RunTally) -> anyhow::Result<()> {
         let kind = K::NAME;
         let RunTally {
@@ -77,7 +77,7 @@ impl<'a> Report<'a> {
         Ok(())
     }
 
-    /// Counts and tells a trial that disagrees: its batch and number, by which it is drawn again, and its netlist.
+    // Counts and tells a trial that disagrees: its batch and number, by which it is drawn again, and its netlist.
     pub(crate) fn show_disagreement<K: Kind>(
         &mut self,
         batch: &str,
@@ -99,7 +99,7 @@ impl<'a> Report<'a> {
         Ok(())
     }
 
-    /// Keeps the numbers by which calls of a run were refused.
+    // Keeps the numbers by which calls of a run were refused.
     pub(crate) fn keep_refusals<P: Price>(
         &mut self,
         answers: &[Answer<P>],
@@ -112,7 +112,7 @@ impl<'a> Report<'a> {
         Ok(())
     }
 
-    /// The last lines; an error where some trial disagrees.
+    // The last lines; an error where some trial disagrees.
     pub(crate) fn finish(&self) -> anyhow::Result<()> {
         print!(self.rt; "refusals told in runs:")?;
         for number in self.refusals.iter() {

@@ -14,7 +14,7 @@ use refusal::Fault;
 use runs::ordering::run_and_order;
 use std::alloc::{AllocError, Global};
 
-/// A list of calls, as the product is asked and leaves them, and the room for its answers.
+// A list of calls, as the product is asked and leaves them, and the room for its answers.
 #[derive(Drop)]
 pub(crate) struct Run<P> {
     calls: Vec<Call>,
@@ -22,18 +22,18 @@ pub(crate) struct Run<P> {
     pub(crate) answers: Vec<Answer<P>>,
 }
 
-/// In what the product and the rules agree over one list.
+// In what the product and the rules agree over one list.
 #[derive(Clone, Copy)]
 pub(crate) struct RunAgreement {
-    /// Whether the layers below the plan refuse alike; absent where there are none.
+    // Whether the layers below the plan refuse alike; absent where there are none.
     pub(crate) layers: Option<bool>,
-    /// How many calls the list has.
+    // How many calls the list has.
     pub(crate) calls: usize,
-    /// Whether as many are told to be made as there is room for answers.
+    // Whether as many are told to be made as there is room for answers.
     pub(crate) count: bool,
-    /// How many answers agree.
+    // How many answers agree.
     pub(crate) answers: usize,
-    /// How many calls stay as they were, since there is no room for their answers.
+    // How many calls stay as they were, since there is no room for their answers.
     pub(crate) left: usize,
     pub(crate) order: bool,
 }
@@ -48,7 +48,7 @@ impl RunAgreement {
 }
 
 impl<P: Price> Run<P> {
-    /// The calls, not yet made, with room for so many answers.
+    // The calls, not yet made, with room for so many answers.
     pub(crate) fn of(heap: Global, calls: Vec<Call>, room: usize) -> Result<Run<P>, AllocError> {
         let mut asked = Vec::new(heap);
         for call in calls.iter() {
@@ -61,7 +61,7 @@ impl<P: Price> Run<P> {
         })
     }
 
-    /// Makes the calls on a new plan over the trial's netlist. In the trial what the rules accept stands afterwards.
+    // Makes the calls on a new plan over the trial's netlist. In the trial what the rules accept stands afterwards.
     pub(crate) fn compare_plain(
         &mut self,
         heap: Global,
@@ -71,8 +71,8 @@ impl<P: Price> Run<P> {
         self.compare_over(heap, trial, &tables.load()?, None)
     }
 
-    /// Makes them over that netlist with straps and mutes tried on it first. Those are no changes of the plan:
-    /// it does not count them, and takes none of them back.
+    // Makes them over that netlist with straps and mutes tried on it first. Those are no changes of the plan:
+    // it does not count them, and takes none of them back.
     pub(crate) fn compare_layered(
         &mut self,
         heap: Global,
@@ -84,7 +84,7 @@ impl<P: Price> Run<P> {
         self.compare_over(heap, trial, &pile.top, Some(pile.agrees))
     }
 
-    /// Makes the calls over a netlist on which the trial's straps and mutes stand.
+    // Makes the calls over a netlist on which the trial's straps and mutes stand.
     fn compare_over<N: Netlist<Price = P>>(
         &mut self,
         heap: Global,
@@ -110,7 +110,7 @@ impl<P: Price> Run<P> {
         })
     }
 
-    /// How many of the answers are as reckoned, with the cells left as they should be.
+    // How many of the answers are as reckoned, with the cells left as they should be.
     fn agreeing(&self, heap: Global, trial: &mut Trial<P>) -> Result<usize, AllocError> {
         let modules = trial.modules;
         let mut reckoning = Reckoning::over(heap, trial);
@@ -125,7 +125,7 @@ impl<P: Price> Run<P> {
         Ok(agreeing)
     }
 
-    /// How many of the calls past the room for answers are as they were.
+    // How many of the calls past the room for answers are as they were.
     fn left(&self) -> usize {
         let mut left = 0usize;
         let calls = self.calls.iter().zip(self.asked.iter());
@@ -138,12 +138,12 @@ impl<P: Price> Run<P> {
     }
 }
 
-/// What stands in the room for an answer before the run: a refusal that no call on a plan tells.
+// What stands in the room for an answer before the run: a refusal that no call on a plan tells.
 fn answer_before<P>() -> Answer<P> {
     Answer::Refused(Fault::LineNotUnderstood)
 }
 
-/// Whether a split leaves its cells as it should.
+// Whether a split leaves its cells as it should.
 fn are_cells_left<P: Price>(modules: usize, asked: &Asked<P>, answer: Answer<P>) -> bool {
     match (asked, answer) {
         (Asked::Split(cells), Answer::Found(_)) => are_cleared(cells.as_slice(), modules),
@@ -152,7 +152,7 @@ fn are_cells_left<P: Price>(modules: usize, asked: &Asked<P>, answer: Answer<P>)
     }
 }
 
-/// Whether a call is as it was handed in.
+// Whether a call is as it was handed in.
 fn is_untouched<P: Price>(call: Call, asked: &Asked<P>) -> bool {
     match (call, asked) {
         (Call::Strap(a, b), Asked::Strap(left_a, left_b)) => a == *left_a && b == *left_b,

@@ -6,8 +6,8 @@ use price::Price;
 use refusal::Fault;
 
 impl<P: Price> Trial<P> {
-    /// Whether `split` may answer this: a lawful split at its true price that no lawful split undercuts,
-    /// or the refusal 17 where no split is lawful.
+    // Whether `split` may answer this: a lawful split at its true price that no lawful split undercuts,
+    // or the refusal 17 where no split is lawful.
     pub(crate) fn allows(&self, answer: Result<FoundSplit<P>, Fault>) -> bool {
         match (self.least_price(), answer) {
             (None, Err(fault)) => fault.number() == 17,
@@ -21,8 +21,8 @@ impl<P: Price> Trial<P> {
         }
     }
 
-    /// Whether a division may be answered: home module 0 on A, some module on B, no bit past the last module,
-    /// and both ends of each strap on one board.
+    // Whether a division may be answered: home module 0 on A, some module on B, no bit past the last module,
+    // and both ends of each strap on one board.
     fn is_lawful(&self, sides: Sides) -> bool {
         !sides.is_on_b(0)
             && sides.word != 0
@@ -30,7 +30,7 @@ impl<P: Price> Trial<P> {
             && self.keeps_straps(sides)
     }
 
-    /// The least price of a lawful division.
+    // The least price of a lawful division.
     fn least_price(&self) -> Option<P> {
         let mut least: Option<P> = None;
         for number in 0..division_count(self.modules) {
@@ -43,7 +43,7 @@ impl<P: Price> Trial<P> {
     }
 }
 
-/// The lesser of two prices, of which the first may be absent.
+// The lesser of two prices, of which the first may be absent.
 fn lesser<P: Price>(least: Option<P>, price: P) -> P {
     match least {
         Some(least) if !price.less(least) => least,

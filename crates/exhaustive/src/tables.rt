@@ -5,7 +5,7 @@ use pin_tables::PinTables;
 use price::Price;
 use std::alloc::Global;
 
-/// Starts, pins and prices: net i owns the pins from starts[i] up to, not including, starts[i + 1].
+// Starts, pins and prices: net i owns the pins from starts[i] up to, not including, starts[i + 1].
 #[derive(Drop)]
 pub(crate) struct Tables<P> {
     modules: usize,
@@ -15,7 +15,7 @@ pub(crate) struct Tables<P> {
 }
 
 impl<P: Price> Tables<P> {
-    /// The tables of a trial's home nets.
+    // The tables of a trial's home nets.
     pub(crate) fn of(heap: Global, trial: &Trial<P>) -> anyhow::Result<Tables<P>> {
         let mut tables = Tables {
             modules: trial.modules,
@@ -30,7 +30,7 @@ impl<P: Price> Tables<P> {
         Ok(tables)
     }
 
-    /// Adds the pins of one net, and where they end.
+    // Adds the pins of one net, and where they end.
     fn push_pins(&mut self, pins: &[usize]) -> anyhow::Result<()> {
         for pin in pins {
             self.pins.push(u8::try_from(*pin)?)?;
@@ -39,7 +39,7 @@ impl<P: Price> Tables<P> {
         Ok(())
     }
 
-    /// The product's netlist over these tables.
+    // The product's netlist over these tables.
     pub(crate) fn load(&self) -> anyhow::Result<PinTables<'_, P>> {
         let mut netlist = PinTables::empty();
         let loaded = netlist.load(

@@ -2,7 +2,7 @@
 use crate::layer_check::Agreement;
 use crate::run_check::RunAgreement;
 
-/// Of a batch of netlists.
+// Of a batch of netlists.
 #[derive(Clone, Copy, Default)]
 pub(crate) struct NetlistTally {
     pub(crate) netlists: usize,
@@ -11,15 +11,15 @@ pub(crate) struct NetlistTally {
     pub(crate) orders: usize,
 }
 
-/// Of a batch of lists of calls.
+// Of a batch of lists of calls.
 #[derive(Clone, Copy, Default)]
 pub(crate) struct RunTally {
     pub(crate) lists: usize,
     pub(crate) calls: usize,
-    /// How many lists are run over layers that agree.
+    // How many lists are run over layers that agree.
     pub(crate) layers: usize,
     pub(crate) answers: usize,
-    /// How many calls are left as they were for want of room.
+    // How many calls are left as they were for want of room.
     pub(crate) left: usize,
     pub(crate) orders: usize,
 }

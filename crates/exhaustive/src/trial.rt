@@ -5,14 +5,14 @@ use netlist::Netlist;
 use price::Price;
 use std::alloc::Global;
 
-/// A home net: its pins and its price.
+// A home net: its pins and its price.
 #[derive(Drop)]
 pub(crate) struct Net<P> {
     pub(crate) pins: Vec<usize>,
     pub(crate) price: P,
 }
 
-/// Home modules 0 to `modules - 1`, their nets, the pairs that are strapped and the nets that are muted.
+// Home modules 0 to `modules - 1`, their nets, the pairs that are strapped and the nets that are muted.
 #[derive(Drop)]
 pub(crate) struct Trial<P> {
     pub(crate) modules: usize,
@@ -22,7 +22,7 @@ pub(crate) struct Trial<P> {
 }
 
 impl<P> Net<P> {
-    /// Whether the net has a pin on each board.
+    // Whether the net has a pin on each board.
     pub(crate) fn crosses(&self, sides: Sides) -> bool {
         self.pins.iter().any(|pin| sides.is_on_b(*pin))
             && self.pins.iter().any(|pin| !sides.is_on_b(*pin))
@@ -30,7 +30,7 @@ impl<P> Net<P> {
 }
 
 impl<P: Price> Trial<P> {
-    /// Modules without nets; nothing is strapped or muted.
+    // Modules without nets; nothing is strapped or muted.
     pub(crate) fn of(heap: Global, modules: usize) -> Trial<P> {
         Trial {
             modules,
@@ -40,7 +40,7 @@ impl<P: Price> Trial<P> {
         }
     }
 
-    /// What a netlist's own questions tell: its modules are groups, and a muted net's price is zero, so nothing is strapped or muted here.
+    // What a netlist's own questions tell: its modules are groups, and a muted net's price is zero, so nothing is strapped or muted here.
     pub(crate) fn asked<N: Netlist<Price = P>>(
         heap: Global,
         netlist: &N,
@@ -58,12 +58,12 @@ impl<P: Price> Trial<P> {
         Ok(trial)
     }
 
-    /// The price of a division: the prices of the nets that cross and are not muted, joined.
+    // The price of a division: the prices of the nets that cross and are not muted, joined.
     pub(crate) fn true_price(&self, sides: Sides) -> P {
         self.joined(|net| net.crosses(sides))
     }
 
-    /// The prices of the nets that are not muted and of which the test holds, joined.
+    // The prices of the nets that are not muted and of which the test holds, joined.
     pub(crate) fn joined<F: Fn(&Net<P>) -> bool>(&self, counts: F) -> P
         requires { F.IsAlwaysCallable counts }
     {
@@ -77,7 +77,7 @@ impl<P: Price> Trial<P> {
     }
 }
 
-/// The pins of a net, as the netlist's questions tell them.
+// The pins of a net, as the netlist's questions tell them.
 fn asked_pins<N: Netlist>(heap: Global, netlist: &N, net: usize) -> anyhow::Result<Vec<usize>> {
     let Some(count) = netlist.pin_count(net) else {
         bail!("the pins of a net that is there are not counted");
@@ -92,7 +92,7 @@ fn asked_pins<N: Netlist>(heap: Global, netlist: &N, net: usize) -> anyhow::Resu
     Ok(pins)
 }
 
-/// Whether two prices are equal: neither is less.
+// Whether two prices are equal: neither is less.
 pub(crate) fn are_equal<P: Price>(one: P, other: P) -> bool {
     !one.less(other) && !other.less(one)
 }

@@ -9,7 +9,7 @@ use Rattle.moduleset.proofs.Sets.{has_past}
 use Rattle.moduleset.proofs.Members.{lone_has, member_has, has_member, members_rise}
 use Rattle.netlist.specs.Nets.{Net, OnPins, pin_at}
 use Rattle.cut.specs.Cuts.{has, pulls}
-use Rattle.cut.proofs.Members.{Member, has_head, has_tail, any_member, member_any, every_member, members_every, all_member, same_tests, pulls_parts, pulls_from}
+use Rattle.cut.proofs.Members.{Member, any_member, member_any, every_member, members_every, all_member, same_tests, pulls_parts, pulls_from}
 use Rattle.grouping.specs.Masks.{pins_of, SetOf, MasksOf, AlsoHas, names}
 use Rattle.grouping.proofs.Nth.{nth_past, nth_next}
 
@@ -83,11 +83,6 @@ only_waits mask taken rest r (Some v) e =
       not-true (is_in taken v) (and_parts (is_in mask v) (not (is_in taken v)) (sym (r v) ∙ there)).1,
     )
 
-nth_member : (xs : List ℕ) (k p : ℕ) → Some p ≡ slice_get xs k → has xs p ≡ true
-nth_member [] k p e = absurd cc
-nth_member (x ∷ xs) zero p e = let q : x ≡ p = cc in subst (λ (y : ℕ). has (x ∷ xs) y ≡ true) q (has_head x xs)
-nth_member (x ∷ xs) (suc k) p e = has_tail x xs p (nth_member xs k p e)
-
 pub has_next : (xs : List ℕ) (v p : ℕ) → has (xs ++ v ∷ []) p ≡ (has xs p || eqb p v)
 has_next [] v p = or-false (eqb p v)
 has_next (x ∷ xs) v p = ap (λ b. eqb p x || b) (has_next xs v p) ∙ sym (or_assoc (eqb p x) (has xs p) (eqb p v))
@@ -102,10 +97,6 @@ module _ {P : Type 0} (nets : List (Net P)) where
   pins_on A [] i z o = z
   pins_on A (net ∷ xs) zero z o = o.0
   pins_on A (net ∷ xs) (suc i) z o = pins_on A xs i z o.1
-
-  pub pin_below : (m i k p : ℕ) → OnPins (AllByRecursion (λ pin. pin < m)) nets → Some p ≡ pin_at nets i k → p < m
-  pin_below m i k p o e =
-      all_member (λ pin. pin < m) (pins_of nets i) p (pins_on (AllByRecursion (λ pin. pin < m)) nets i tt o) (nth_member (pins_of nets i) k p (e ∙ pin_nth nets i k))
 
   -- the set of the first k pins of net i
   abbrev pub FirstPins : ℕ → ℕ → ℕ → Type 0

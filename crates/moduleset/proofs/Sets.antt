@@ -1,5 +1,5 @@
 -- Laws of the sets of modules, by what they have.
-use Rattle.std.proofs.Common.{◌≡◌, ℕ, suc, ◌+◌, ◌-◌, ◌*◌, ◌/◌, ◌%◌, ◌^◌, ◌<◌, ◌≤◌, Bool, true, false, cond, not, ◌&&◌, ◌||◌, eqb, ltb, leb, Decides, sym, refl, ap, ◌∙◌, ap₂, ⊎_elim, arith, lit<, pow_mono}
+use Rattle.std.proofs.Common.{◌≡◌, ℕ, suc, ◌+◌, ◌-◌, ◌*◌, ◌/◌, ◌%◌, ◌^◌, ◌<◌, ◌≤◌, Bool, true, false, cond, not, ◌&&◌, ◌||◌, eqb, ltb, leb, Decides, sym, refl, ap, ◌∙◌, ap₂, ⊎_elim, arith, pow_mono}
 use lib.Bits.{bit_and, bit_or, and_mask, and_le_l}
 use lib.Count.{count_leading_zeros, leading_top}
 use Rattle.std.proofs.lemmas.Bool.{eq-eqb, ne_eqb, eqb-true, eqb-false, cases_lt, cases_order, lt-ltb, le-ltb, le-leb, lt-leb, and_left, and_from, and_parts, both_ways, not-true, not_from_false}
@@ -125,9 +125,6 @@ leading_lowest w p h =
 -- a word is 0 exactly when it has no module
 pub zero_has : (w : ℕ) → eqb w 0 ≡ true → (k : ℕ) → has w k ≡ false
 zero_has w e k = ap (λ (x : ℕ). has x k) (eqb-true w 0 e) ∙ has_zero k
-
-pub has_none : (w : ℕ) → w < 2 ^ 64 → ((k : ℕ) → has w k ≡ false) → w ≡ 0
-has_none w p f = same_sets w 0 p (lit< tt) (λ k h. f k ∙ sym (has_zero k))
 
 -- whether some module is in both
 pub meets_some : (a b : ℕ) → a < 2 ^ 64 → b < 2 ^ 64 → Decides (not (eqb (bit_and a b) 0)) ((k : ℕ) × (has a k ≡ true) × (has b k ≡ true))

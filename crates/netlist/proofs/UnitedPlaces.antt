@@ -1,32 +1,13 @@
 -- The place that uniting two groups gives, case by case.
-use Rattle.std.proofs.Common.{◌≡◌, ℕ, suc, pred, ◌<◌, ◌≤◌, max, cond, ltb, ◌⊎◌, ⊎_elim, arith}
+use Rattle.std.proofs.Common.{◌≡◌, ℕ, suc, pred, ◌<◌, ◌≤◌, max, cond, ltb, ◌⊎◌, arith}
 use Rattle.std.proofs.lemmas.Bool.Decides.{nat_tests}
-use Rattle.std.proofs.lemmas.Bool.{cases_order}
 use Rattle.netlist.specs.Changes.{united_place}
-
-pub united_lower : (a b p : ℕ) → p < max a b → united_place a b p ≡ p
-united_lower a b p h = grind (arith, nat_tests)
-
-pub united_higher : (a b p : ℕ) → max a b < p → united_place a b p ≡ pred p
-united_higher a b p h = grind (arith, nat_tests)
-
-pub united_zero : (a b : ℕ) → (a ≡ b → ⊥) → united_place a b 0 ≡ 0
-united_zero a b d = grind (arith, nat_tests)
 
 pub united_same : (a b : ℕ) → united_place a b a ≡ united_place a b b
 united_same a b = grind (arith, nat_tests)
 
 pub united_below : (a b g p : ℕ) → a < suc g → b < suc g → (a ≡ b → ⊥) → p < suc g → united_place a b p < g
 united_below a b g p i j d h = grind (arith, nat_tests)
-
--- every place below g is the new place of one
-pub united_onto : (a b g q : ℕ) → q < g → (p : ℕ) × (p < suc g) × (united_place a b p ≡ q)
-united_onto a b g q h = ⊎_elim
-    (λ e. (suc q, omega arith, united_higher a b (suc q) (omega arith)))
-    (⊎_elim
-    (λ e. (q, omega arith, united_lower a b q e))
-    (λ e. (suc q, omega arith, united_higher a b (suc q) (omega arith))))
-    (cases_order q (max a b))
 
 -- only the places a and b fall together
 pub united_apart : (a b p q : ℕ) → (a ≡ b → ⊥) → united_place a b p ≡ united_place a b q → (p ≡ q) ⊎ (((p ≡ a) ⊎ (p ≡ b)) × ((q ≡ a) ⊎ (q ≡ b)))

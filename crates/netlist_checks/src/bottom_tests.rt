@@ -1,68 +1,26 @@
 //! Loading: every refusal with its place, and what is answered after.
 use crate::asked::{nets_are, pins_are, places_are};
-use bit_rows::BitRows;
-use fixtures::{SEVEN, told};
+use crate::comparing::equal;
+use crate::loading::{is_refused, rows, rows_refused, tables, tables_refused};
+use fixtures::SEVEN;
 use netlist::Netlist;
-use pin_tables::PinTables;
-use price::Price;
 use price::values::Wires;
-use refusal::{Fault, Place};
+use refusal::Place;
 use std::process::Abort;
 use std::test::Fail;
 
 const ONE: Wires = Wires { count: 1 };
 
-// Refused, and the bottom, which was empty, stays so.
-fn left_empty<N: Netlist>(
-    rt: &impl Abort,
-    answer: Result<(), Fault>,
-    bottom: &N,
-    number: u8,
-    place: Place,
-) {
-    assert_eq!(rt; told(answer), Some((number, place)));
-    assert_eq!(rt; bottom.home_count(), 0);
-    assert_eq!(rt; bottom.net_count(), 0);
-}
-
-fn tables_refused<'a>(
-    rt: &impl Abort,
-    modules: usize,
-    starts: &'a [u32],
-    pins: &'a [u8],
-    prices: &'a [Wires],
-    number: u8,
-    place: Place,
-) {
-    let mut tables = PinTables::empty();
-    let answer = tables.load(modules, starts, pins, prices);
-    left_empty(rt, answer, &tables, number, place);
-}
-
-fn rows_refused<'a>(
-    rt: &impl Abort,
-    modules: usize,
-    rows: &'a [u64],
-    prices: &'a [Wires],
-    number: u8,
-    place: Place,
-) {
-    let mut bits = BitRows::empty();
-    let answer = bits.load(modules, rows, prices);
-    left_empty(rt, answer, &bits, number, place);
+fn sixty_four<N: Netlist>(rt: &impl Abort, bottom: &N) {
+    equal(rt, bottom.module_count(), 64);
+    equal(rt, bottom.place(63), Some(63));
+    equal(rt, bottom.place(64), None);
 }
 
 #[test]
 fn sixty_four_modules_load(rt: HostRuntime) {
-    let prices: [Wires; 0] = [];
-    let mut tables = PinTables::empty();
-    assert!(rt; tables.load(64, &[0], &[], &prices).is_ok());
-    assert_eq!(rt; tables.module_count(), 64);
-    assert_eq!(rt; tables.place(63), Some(63));
-    assert_eq!(rt; tables.place(64), None);
-    let mut bits = BitRows::empty();
-    assert!(rt; bits.load(64, &[], &prices).is_ok());
-    assert_eq!(rt; bits.module_count(), 64);
+    sixty_four(&rt, &tables(&rt, 64, &[0], &[], &[]));
+    sixty_four(&rt, &rows(&rt, 64, &[], &[]));
 }
 
 #[test]
@@ -89,24 +47,27 @@ fn pins_of(rt: &HostRuntime, nets: u32) -> Result<Vec<u8>, Fail> {
     Ok(pins)
 }
 
+fn a_thousand_and_twenty_four<N: Netlist>(rt: &impl Abort, bottom: &N) {
+    equal(rt, bottom.net_count(), 1024);
+    equal(rt, bottom.pin(1023, 1), Some(1));
+}
+
 #[test]
 fn a_thousand_and_twenty_four_nets_load(rt: HostRuntime) -> Result<(), Fail> {
     let starts = starts_of(&rt, 1024)?;
     let pins = pins_of(&rt, 1024)?;
-    let rows = vec![in rt.alloc(); 0xC000_0000_0000_0000u64; 1024]?;
+    let words = vec![in rt.alloc(); 0xC000_0000_0000_0000u64; 1024]?;
     let prices = vec![in rt.alloc(); ONE; 1024]?;
-    let mut tables = PinTables::empty();
-    assert!(rt;
-        tables
-            .load(2, starts.as_slice(), pins.as_slice(), prices.as_slice())
-            .is_ok()
+    let tables = tables(
+        &rt,
+        2,
+        starts.as_slice(),
+        pins.as_slice(),
+        prices.as_slice(),
     );
-    assert_eq!(rt; tables.net_count(), 1024);
-    assert_eq!(rt; tables.pin(1023, 1), Some(1));
-    let mut bits = BitRows::empty();
-    assert!(rt; bits.load(2, rows.as_slice(), prices.as_slice()).is_ok());
-    assert_eq!(rt; bits.net_count(), 1024);
-    assert_eq!(rt; bits.pin(1023, 1), Some(1));
+    a_thousand_and_twenty_four(&rt, &tables);
+    let bits = rows(&rt, 2, words.as_slice(), prices.as_slice());
+    a_thousand_and_twenty_four(&rt, &bits);
     Ok(())
 }
 
@@ -202,37 +163,28 @@ fn two_nets<N: Netlist<Price = Wires>>(rt: &impl Abort, bottom: &N) {
 #[test]
 fn both_bottoms_answer_alike(rt: HostRuntime) {
     let prices = [ONE, SEVEN];
-    let mut tables = PinTables::empty();
-    assert!(rt;
-        tables
-            .load(4, &[0, 2, 5], &[0, 3, 1, 2, 3], &prices)
-            .is_ok()
+    two_nets(&rt, &tables(&rt, 4, &[0, 2, 5], &[0, 3, 1, 2, 3], &prices));
+    two_nets(
+        &rt,
+        &rows(
+            &rt,
+            4,
+            &[0x9000_0000_0000_0000, 0x7000_0000_0000_0000],
+            &prices,
+        ),
     );
-    two_nets(&rt, &tables);
-    let mut bits = BitRows::empty();
-    assert!(rt;
-        bits.load(4, &[0x9000_0000_0000_0000, 0x7000_0000_0000_0000], &prices)
-            .is_ok()
-    );
-    two_nets(&rt, &bits);
 }
 
 #[test]
 fn a_refused_load_leaves_the_bottom(rt: HostRuntime) {
     let prices = [ONE];
-    let mut tables = PinTables::empty();
-    assert!(rt; tables.load(2, &[0, 2], &[0, 1], &prices).is_ok());
+    let mut tables = tables(&rt, 2, &[0, 2], &[0, 1], &prices);
     let answer = tables.load(3, &[0, 2], &[0, 9], &prices);
-    assert_eq!(rt;
-        told(answer),
-        Some((
-            7,
-            Place::Pin {
-                net: 0,
-                position: 1,
-            },
-        ))
-    );
-    assert_eq!(rt; tables.home_count(), 2);
-    assert_eq!(rt; tables.pin(0, 1), Some(1));
+    let at = Place::Pin {
+        net: 0,
+        position: 1,
+    };
+    is_refused(&rt, answer, 7, at);
+    equal(&rt, tables.home_count(), 2);
+    equal(&rt, tables.pin(0, 1), Some(1));
 }

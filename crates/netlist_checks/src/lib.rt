@@ -6,4 +6,8 @@ mod asked;
 #[cfg(test)]
 mod bottom_tests;
 #[cfg(test)]
+mod comparing;
+#[cfg(test)]
 mod layer_tests;
+#[cfg(test)]
+mod loading;

@@ -68,7 +68,7 @@ module _ (starts : List ℕ) where
           let at = turn (length yielded) (x.0, (x.1.0.now, x.1.1.now)) now.0 now.1 in
           (at.0, subst (λ (p : ℕ × (ℕ × ℕ)). told ≡ checked (net_fault modules p.0 (slice_range pins p.1.0 p.1.1))) at.1 e)
 
-      -- it ends behind the last net
+      -- the loop ends after the last net
       pub nets_in_all : (r : Option (ℕ × (Bor ℕ × Bor ℕ))) → r ≡ None → enumerate_steps (zips fronts fronts) t r u → length yielded ≡ length starts - 1
       nets_in_all r is step = (YieldsList-end road yielded t so_far r u is step).1 ∙ turns
 

@@ -39,7 +39,7 @@ impl<'a, P: Price> PinTables<'a, P> {
     }
 }
 
-/// Refuses starts that do not fit the number of pins and nets.
+// Refuses starts that do not fit the number of pins and nets.
 fn check_tables(starts: &[u32], pins: usize, nets: usize) -> Result<(), Fault>
     requires { nets ≤ 1024 }
     ensures { result ≡ checked (then_some (disagree starts.now pins nets) TablesDisagree) }
@@ -50,7 +50,7 @@ fn check_tables(starts: &[u32], pins: usize, nets: usize) -> Result<(), Fault>
     Ok(())
 }
 
-/// Refuses the first net with fewer than two pins; starts that fall count so.
+// Refuses the first net with fewer than two pins; starts that fall count so.
 fn check_pin_counts(starts: &[u32]) -> Result<(), Fault>
     requires { 0 < length starts.now }
     ensures { result ≡ checked (few_fault (few starts.now) (length starts.now - 1)) }

@@ -6,7 +6,7 @@ ghost use Rattle.pin_tables.specs.Tables.{net_pins, Rising};
 
 use refusal::{Fault, Place};
 
-/// Refuses the first pin, net by net, that names no module or repeats an earlier pin of its net.
+// Refuses the first pin, net by net, that names no module or repeats an earlier pin of its net.
 pub(crate) fn check_pins(modules: usize, starts: &[u32], pins: &[u8]) -> Result<(), Fault>
     requires some { 0 < length starts.now }
     requires rising { Rising starts.now pins.now (length starts.now - 1) }
@@ -18,7 +18,7 @@ pub(crate) fn check_pins(modules: usize, starts: &[u32], pins: &[u8]) -> Result<
     Ok(())
 }
 
-/// Refuses the first pin of one net that names no module or repeats an earlier one.
+// Refuses the first pin of one net that names no module or repeats an earlier one.
 // Nested loops left by a label, as decided: so no early return and no `contains`.
 fn check_net(modules: usize, net: usize, pins: &[u8]) -> Result<(), Fault>
     ensures { result ≡ checked (net_fault modules net pins.now) }

@@ -21,7 +21,7 @@ impl<'a, P: Price> PinTables<'a, P> {
         }
     }
 
-    /// The pins of a net.
+    // The pins of a net.
     fn pins_of(&self, net: usize) -> Option<&[u8]>
         ensures { MatchOption result
             (length self.now.prices.now ≤ net)

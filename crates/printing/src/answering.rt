@@ -34,7 +34,7 @@ pub fn answer_page<P: Price>(
     }
 }
 
-/// Runs a script on a new plan over the netlist of a page that was unpacked into these tables.
+// Runs a script on a new plan over the netlist of a page that was unpacked into these tables.
 // The tables and the buffer stay apart: a struct that lends them needs a clause for each that it is still the caller's.
 fn answer_script<'a, P: Price>(
     counts: Counts,

@@ -22,7 +22,7 @@ pub fn print_all(heap: Global, page: &[u8], script: &[u8]) -> Result<Vec<u8>, Al
     }
 }
 
-/// A line alone.
+// A line alone.
 fn print_line(heap: Global, line: Line) -> Result<Vec<u8>, AllocError>
     ensures { IfOk result (λ printed. printed.items ≡ line_bytes line) }
 {

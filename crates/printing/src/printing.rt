@@ -23,7 +23,7 @@ pub fn print_page<P: Price>(heap: Global, page: &[u8], script: &[u8]) -> Result<
 }
 
 impl<P: Price> Tables<P> {
-    /// Answers a page and a script into a buffer that suffices, and answers how many bytes that took.
+    // Answers a page and a script into a buffer that suffices, and answers how many bytes that took.
     #[tactic(auto, using(std::proofs::lemmas::Grind::common_steps, crate::proofs::PagesFit::pages_fit))]
     fn answer_into(self, page: &[u8], script: &[u8], out: &mut [u8]) -> usize
         requires line { 37 ≤ length out.old }
@@ -49,7 +49,7 @@ impl<P: Price> Tables<P> {
     }
 }
 
-/// How many bytes the answers take at most: one line, or all lines of a script that is run.
+// How many bytes the answers take at most: one line, or all lines of a script that is run.
 fn room_for(script: &[u8]) -> usize
     ensures line { 37 ≤ result }
     ensures lines { length script.now ≤ 65536 → 37 * length (lines_of script.now) ≤ result }

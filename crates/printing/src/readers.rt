@@ -51,7 +51,7 @@ pub fn print_from<R: Read + Drop, S: Read + Drop>(
     print_all(heap, page.as_slice(), script.as_slice()).map_err(PrintError::Memory)
 }
 
-/// The bytes that a reader gives, up to so many.
+// The bytes that a reader gives, up to so many.
 #[tactic(auto, unfolding(crate::specs::Readers::FirstOf))]
 fn read_up_to<R: Read + Drop>(heap: Global, source: R, most: u64) -> io::Result<Vec<u8>>
     ensures { IfOk result (λ bytes. FirstOf most (R.remaining source) bytes.items) }

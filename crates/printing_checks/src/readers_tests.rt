@@ -5,7 +5,7 @@ use std::io;
 use std::io::{ErrorKind, Read, Write};
 use std::test::Fail;
 
-/// Fails at each read and at each write.
+// Fails at each read and at each write.
 #[derive(Drop)]
 struct Broken {}
 

@@ -23,7 +23,7 @@ pub fn united_row(row: [u8; MODULES_MOST], a: u8, b: u8) -> [u8; MODULES_MOST]
     row.map(move |group| united_place(a, b, group))
 }
 
-/// The number of a group once groups `a` and `b` are one: that has the lower of the two numbers, and the numbers above the higher close up.
+// The number of a group once groups `a` and `b` are one: that has the lower of the two numbers, and the numbers above the higher close up.
 fn united_place(a: u8, b: u8, group: u8) -> u8
     ensures { result ≡ united_place_of a b group }
 {

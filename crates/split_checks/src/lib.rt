@@ -2,6 +2,10 @@
 #![tactic(auto)]
 
 #[cfg(test)]
+mod comparing;
+#[cfg(test)]
+mod loading;
+#[cfg(test)]
 mod order_tests;
 #[cfg(test)]
 mod split_tests;

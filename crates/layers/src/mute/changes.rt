@@ -32,7 +32,7 @@ impl<N: Netlist> MuteLayer<N> {
         Ok(())
     }
 
-    /// That a net is there and not muted.
+    // That a net is there and not muted.
     fn check_unmuted(&self, net: usize) -> Result<(), Fault>
         ensures { result ≡ checked (mute_fault net (mute_meaning N.Netlist.meaning self.now)) }
     {

@@ -31,7 +31,7 @@ impl<N: Netlist> StrapLayer<N> {
         Ok(())
     }
 
-    /// The places of two home modules that may be strapped.
+    // The places of two home modules that may be strapped.
     fn ends(&self, a: usize, b: usize) -> Result<(u8, u8), Fault>
         ensures { Ends a b (strap_meaning N.Netlist.meaning self.now) result }
     {
@@ -43,7 +43,7 @@ impl<N: Netlist> StrapLayer<N> {
         Ok((v, w))
     }
 
-    /// The place of a home module that is there.
+    // The place of a home module that is there.
     fn home_place(&self, home: usize) -> Result<u8, Fault>
         ensures { HomePlace home (strap_meaning N.Netlist.meaning self.now) result }
     {

@@ -48,7 +48,7 @@ impl<N: Netlist> Netlist for StrapLayer<N> {
     }
 }
 
-/// How many groups a row has: one more than the greatest, and none where it is empty.
+// How many groups a row has: one more than the greatest, and none where it is empty.
 fn group_count(row: &[u8]) -> usize
     ensures { result ≡ groups row.now }
 {
