@@ -4,6 +4,7 @@
 
 mod batches;
 mod calls;
+mod cases;
 mod cells;
 mod change_rule;
 mod drawing;

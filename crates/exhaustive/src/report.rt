@@ -1,6 +1,5 @@
 //! What is printed: a line for each batch of trials, and each trial that disagrees.
 use crate::kinds::Kind;
-use crate::tallies::{NetlistTally, RunTally};
 use crate::trial::Trial;
 use anyhow::bail;
 use plan::calls::Answer;
@@ -42,38 +41,20 @@ impl<'a> Report<'a> {
         Ok(())
     }
 
-    // The line of a batch of netlists.
-    pub(crate) fn show_netlists<K: Kind>(
+    // The line of a batch: how many trials it has, and how many of what they ask agree.
+    pub(crate) fn show_counts(
         &self,
         batch: &str,
-        tally: NetlistTally,
+        kind: &str,
+        counts: &[(usize, &str)],
     ) -> anyhow::Result<()> {
-        let kind = K::NAME;
-        let NetlistTally {
-            netlists,
-            layers,
-            splits,
-            orders,
-        } = tally;
-        print!(self.rt; "{batch} in {kind}: {netlists} netlists")?;
-        println!(self.rt; ", {layers} layers agree, {splits} splits agree, {orders} orders agree")?;
-        Ok(())
-    }
-
-    // The line of a batch of runs.
-    pub(crate) fn show_runs<K: Kind>(&self, batch: &str, tally: RunTally) -> anyhow::Result<()> {
-        let kind = K::NAME;
-        let RunTally {
-            lists,
-            calls,
-            layers,
-            answers,
-            left,
-            orders,
-        } = tally;
-        print!(self.rt; "{batch} in {kind}: {lists} lists, {calls} calls, {layers} layers agree")?;
-        print!(self.rt; ", {answers} answers agree, {left} calls without room stay")?;
-        println!(self.rt; ", {orders} orders agree")?;
+        print!(self.rt; "{batch} in {kind}")?;
+        let mut mark = ":";
+        for (count, what) in counts {
+            print!(self.rt; "{mark} {count} {what}")?;
+            mark = ",";
+        }
+        println!(self.rt; "")?;
         Ok(())
     }
 
@@ -114,17 +95,22 @@ impl<'a> Report<'a> {
 
     // The last lines; an error where some trial disagrees.
     pub(crate) fn finish(&self) -> anyhow::Result<()> {
-        print!(self.rt; "refusals told in runs:")?;
-        for number in self.refusals.iter() {
-            print!(self.rt; " {number}")?;
-        }
-        println!(self.rt; "")?;
+        self.show_refusals()?;
         let disagreements = self.disagreements;
         if disagreements > 0 {
             println!(self.rt; "{disagreements} disagree")?;
             bail!("the product and the rules disagree");
         }
         println!(self.rt; "all agree")?;
+        Ok(())
+    }
+
+    fn show_refusals(&self) -> anyhow::Result<()> {
+        print!(self.rt; "refusals told in runs:")?;
+        for number in self.refusals.iter() {
+            print!(self.rt; " {number}")?;
+        }
+        println!(self.rt; "")?;
         Ok(())
     }
 }

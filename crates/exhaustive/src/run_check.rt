@@ -61,27 +61,23 @@ impl<P: Price> Run<P> {
         })
     }
 
-    // Makes the calls on a new plan over the trial's netlist. In the trial what the rules accept stands afterwards.
-    pub(crate) fn compare_plain(
+    // Makes the calls on a new plan over the trial's netlist, or over that netlist with straps and mutes tried on it first.
+    // Those are no changes of the plan: it does not count them, and takes none of them back.
+    // In the trial what the rules accept stands afterwards.
+    pub(crate) fn compare(
         &mut self,
         heap: Global,
         trial: &mut Trial<P>,
+        below: Option<&Tries>,
     ) -> anyhow::Result<RunAgreement> {
         let tables = Tables::of(heap, trial)?;
-        self.compare_over(heap, trial, &tables.load()?, None)
-    }
-
-    // Makes them over that netlist with straps and mutes tried on it first. Those are no changes of the plan:
-    // it does not count them, and takes none of them back.
-    pub(crate) fn compare_layered(
-        &mut self,
-        heap: Global,
-        trial: &mut Trial<P>,
-        below: &Tries,
-    ) -> anyhow::Result<RunAgreement> {
-        let tables = Tables::of(heap, trial)?;
-        let pile = Pile::over(&tables, trial, below)?;
-        self.compare_over(heap, trial, &pile.top, Some(pile.agrees))
+        match below {
+            None => self.compare_over(heap, trial, &tables.load()?, None),
+            Some(tries) => {
+                let pile = Pile::over(&tables, trial, tries)?;
+                self.compare_over(heap, trial, &pile.top, Some(pile.agrees))
+            }
+        }
     }
 
     // Makes the calls over a netlist on which the trial's straps and mutes stand.

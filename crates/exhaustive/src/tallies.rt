@@ -31,6 +31,16 @@ impl NetlistTally {
         self.splits = self.splits.saturating_add(usize::from(agreement.split));
         self.orders = self.orders.saturating_add(usize::from(agreement.order));
     }
+
+    // Each count with what it counts, as they are printed.
+    pub(crate) fn counts(self) -> [(usize, &'static str); 4] {
+        [
+            (self.netlists, "netlists"),
+            (self.layers, "layers agree"),
+            (self.splits, "splits agree"),
+            (self.orders, "orders agree"),
+        ]
+    }
 }
 
 impl RunTally {
@@ -42,5 +52,17 @@ impl RunTally {
         self.answers = self.answers.saturating_add(agreement.answers);
         self.left = self.left.saturating_add(agreement.left);
         self.orders = self.orders.saturating_add(usize::from(agreement.order));
+    }
+
+    // Each count with what it counts, as they are printed.
+    pub(crate) fn counts(self) -> [(usize, &'static str); 6] {
+        [
+            (self.lists, "lists"),
+            (self.calls, "calls"),
+            (self.layers, "layers agree"),
+            (self.answers, "answers agree"),
+            (self.left, "calls without room stay"),
+            (self.orders, "orders agree"),
+        ]
     }
 }
