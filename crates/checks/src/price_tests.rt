@@ -86,7 +86,7 @@ fn the_widest_is_the_greater(rt: HostRuntime) {
 
 #[test]
 fn kinds_have_their_numbers(rt: HostRuntime) {
-    equal(&rt, <Wires as Price>::number(), 1);
-    equal(&rt, <TimersFirst as Price>::number(), 2);
-    equal(&rt, <Widest as Price>::number(), 3);
+    equal(&rt, Wires::PAGE_NUMBER, 1);
+    equal(&rt, TimersFirst::PAGE_NUMBER, 2);
+    equal(&rt, Widest::PAGE_NUMBER, 3);
 }

@@ -1,7 +1,7 @@
 -- A net's pins as a set, and the module at which the net pulls.
-use Rattle.std.proofs.Common.{◌≡◌, ℕ, zero, suc, ◌+◌, ◌<◌, ◌≤◌, true, false, not, ◌&&◌, ◌||◌, eqb, List, [], ◌∷◌, ◌++◌, map, length, get_or, take, set, IfSome, Some, None, Option, sym, refl, ap, ◌∙◌, subst, ⊎_elim, arith}
+use Rattle.std.proofs.Common.{◌≡◌, ℕ, zero, suc, ◌+◌, ◌-◌, ◌<◌, ◌≤◌, true, false, not, ◌&&◌, ◌||◌, eqb, List, [], ◌∷◌, ◌++◌, map, length, get_or, take, drop, replicate, set, IfSome, Some, None, Option, sym, refl, ap, ◌∙◌, subst, ⊎_elim, arith}
 use Rattle.std.specs.List.{slice_get, AllByRecursion}
-use Rattle.std.proofs.lemmas.List.{take_all, get_or-set_same, get_or-set_other, get_or_append_left, map-set, map-append, length-map}
+use Rattle.std.proofs.lemmas.List.{take_all, get_or-set_same, get_or-set_other, get_or_append_left, get_or-append_right, get_or-replicate, drop-replicate, get_or-map, length-replicate, map-set, map-append, length-map}
 use Rattle.std.proofs.Math.Bool.{or-false, or_assoc}
 use Rattle.std.proofs.lemmas.Bool.{both_ways, not-true, eqb-true, eq-eqb, cases_Bool, cases_lt, and_parts, and_from, or_cases, or_left, or_right}
 use Rattle.moduleset.specs.Words.{has as is_in, members, lone}
@@ -155,3 +155,16 @@ masks_all word nets masks rest n all long g i net e v =
     let inside : i < length (map word masks) = omega (arith, h.0, length-map masks word) in
     ap (λ (x : ℕ). is_in x v) (ap (λ words. get_or words i 0) (map-append word masks rest) ∙ get_or_append_left (map word masks) (map word rest) 0 i inside)
     ∙ g i (omega (arith, h.0)) v ∙ ap (λ xs. has xs v) (sym h.1)
+
+-- where only empty sets follow the elements of the nets
+pub rest_empty : {X : Type 0} (word : X → ℕ) (masks : List X) (none : X) (n long : ℕ) → ((v : ℕ) → is_in (word none) v ≡ false) → length masks ≡ n
+    → (i v : ℕ) → n ≤ i → i < long → is_in (get_or (map word (masks ++ drop n (replicate long none))) i 0) v ≡ false
+rest_empty word masks none n long e all i v past inside =
+    let rest = drop n (replicate long none) in
+    ap (λ (x : ℕ). is_in x v)
+    (ap (λ words. get_or words i 0) (map-append word masks rest)
+    ∙ get_or-append_right (map word masks) (map word rest) n i 0 (length-map masks word ∙ all) past
+    ∙ ap (λ xs. get_or (map word xs) (i - n) 0) (drop-replicate n long none)
+    ∙ get_or-map word (replicate (long - n) none) (i - n) none 0 (omega (arith, length-replicate (long - n) none))
+    ∙ ap word (get_or-replicate (long - n) (i - n) none none (omega arith)))
+    ∙ e v

@@ -1,5 +1,5 @@
 -- Nets as sets of groups, in 64-bit words.
-use Rattle.std.specs.Prelude.{◌≡◌, ℕ, zero, suc, ◌<◌, Bool, false, ◌||◌, List, [], ◌∷◌, map, Some, None, Option, ◌==◌, slice_index}
+use Rattle.std.specs.Prelude.{◌≡◌, ℕ, zero, suc, ◌<◌, ◌≤◌, Bool, false, ◌||◌, List, [], ◌∷◌, map, Some, None, Option, ◌==◌, slice_index}
 use Rattle.std.specs.List.{slice_get}
 use Rattle.moduleset.specs.Words.{has as is_in}
 use Rattle.price.specs.Kind.{Kind}
@@ -30,6 +30,10 @@ SetOf set pins = (v : ℕ) → is_in set v ≡ has pins v
 -- each net's pins as a set, at the net's number
 abbrev pub MasksOf : {P : Type 0} → List ℕ → List (Net P) → Type 0
 MasksOf {P} words nets = (i : ℕ) (net : Net P) → slice_get nets i ≡ Some net → SetOf (slice_index words i) net.pins
+
+-- of 1024 words, each past the first n is the empty set
+abbrev pub EmptyPast : ℕ → List ℕ → Type 0
+EmptyPast n words = (i v : ℕ) → n ≤ i → i < 1024 → is_in (slice_index words i) v ≡ false
 
 -- Whatever groups the set is of, the new set is of those once groups a and b are one.
 pub record UnitedSet (a b set set' : ℕ) : Type 0 where

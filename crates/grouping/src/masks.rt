@@ -1,18 +1,19 @@
 //! Nets as sets of modules or of groups, and the module at which a net pulls.
-ghost use Rattle.std.specs.Prelude.{◌≡◌, ℕ, ◌<◌, false, List, map, IfSome, slice_index};
+ghost use Rattle.std.specs.Prelude.{◌≡◌, ℕ, ◌<◌, false, List, map, length, IfSome, slice_index};
 ghost use Rattle.moduleset.specs.Words.{has as is_in};
 ghost use Rattle.netlist.specs.Meaning.{own_nets};
 ghost use Rattle.cut.specs.Cuts.{pulls};
-ghost use Rattle.grouping.specs.Masks.{SetOf, MasksOf, UnitedSet, pins_of, names};
+ghost use Rattle.grouping.specs.Masks.{SetOf, MasksOf, EmptyPast, UnitedSet, pins_of, names};
 
 use moduleset::ModuleSet;
 use netlist::Netlist;
 use netlist::limits::{MODULES_MOST, NETS_MOST};
 use price::Price;
 
-/// Of each net the modules of its pins, so that no step asks for the pins again.
+/// Of each net the modules of its pins, so that no step asks for the pins again. Past the last net, no modules.
 pub fn gather<N: Netlist>(netlist: &N) -> [ModuleSet; NETS_MOST]
-    ensures { MasksOf (map (λ mask. mask.word) result) (own_nets N.Price.Price.kind (N.meaning netlist.now)) }
+    ensures nets { MasksOf (map (λ mask. mask.word) result) (own_nets N.Price.Price.kind (N.meaning netlist.now)) }
+    ensures rest { EmptyPast (length (N.meaning netlist.now).nets) (map (λ mask. mask.word) result) }
 {
     let mut masks = [ModuleSet::empty(); NETS_MOST];
     for (i, mask) in masks[..netlist.net_count()].iter_mut().enumerate() {

@@ -60,6 +60,9 @@ module _ (bytes : List ℕ) where
         pin_new bytes kind fine i h j m earlier before
         (sym (net_pin_at bytes at count earlier (omega arith)) ∙ sym same ∙ e)))))
 
+    pub counts_fine : counts_fault (modules_field bytes) (nets_field bytes) ≡ None
+    counts_fine = rw (le-ltb 64 (modules_field bytes) (few_modules bytes kind fine), le-ltb 1024 (nets_field bytes) (few_nets bytes kind fine))
+
     -- the tables of the page's nets, as pin tables find them
     pub no_fault : tables_fault (modules_field bytes) (starts_table bytes (nets_field bytes)) (pins_table bytes (nets_field bytes)) (nets_field bytes) ≡ None
     no_fault =
@@ -67,13 +70,12 @@ module _ (bytes : List ℕ) where
         let n = nets_field bytes in
         let starts = starts_table bytes n in
         let pins = pins_table bytes n in
-        let counts : counts_fault m n ≡ None = rw (le-ltb 64 m (few_modules bytes kind fine), le-ltb 1024 n (few_nets bytes kind fine)) in
         let agree : disagree starts (length pins) n ≡ false =
         rw (eq-eqb (length starts) (n + 1) (length_starts bytes n), eq-eqb (get_or starts 0 0) 0 (start_at bytes n 0 (omega arith) ∙ none_yet), eq-eqb (get_or starts n 0) (length pins) (start_at bytes n n (omega arith))) in
         let enough : few_fault (few starts) n ≡ None = first_of_none _ n (λ i h. then_some_false _ _ (le-ltb (get_or starts (i + 1) 0) (get_or starts i 0 + 2)
         (let a = start_at bytes n i (omega arith) in let b = start_at bytes n (i + 1) (omega arith) in let c = count_more bytes i in let d = two_pins bytes kind fine i h in omega arith))) in
         let there : pins_fault m (owned starts pins) n ≡ None = first_of_none _ n (λ i h. ap (net_fault m i) (owned_same n i h) ∙ net_loads i h) in
-        rw (counts, agree, enough, there)
+        rw (counts_fine, agree, enough, there)
 
   -- the nets of the tables are the page's
   nets_same : {P : Type 0} (n i : ℕ) (prices : List P) → i + length prices ≤ n
@@ -105,29 +107,33 @@ module _ {P : Type 0} (k : Kind P) (bytes s starts p pins : List ℕ) (c prices 
   prices_long = length_prices bytes k (nets_field bytes) ∙ sym filled.counted.nets_are
 
   starts_front : take (n.nets + 1) starts ≡ starts_table bytes (nets_field bytes)
-  starts_front = front _ s starts (n.nets + 1) starts_long filled.starts_are
+  starts_front = front _ s starts (n.nets + 1) starts_long filled.written.starts_are
 
   pins_front : take n.pins pins ≡ pins_table bytes (nets_field bytes)
-  pins_front = front _ p pins n.pins (sym filled.counted.pins_are) filled.pins_are
+  pins_front = front _ p pins n.pins (sym filled.counted.pins_are) filled.written.pins_are
 
   prices_front : take n.nets prices ≡ prices_table bytes k (nets_field bytes)
-  prices_front = front _ c prices n.nets prices_long filled.prices_are
+  prices_front = front _ c prices n.nets prices_long filled.written.prices_are
 
   room : room_fault n.nets n.pins (length starts) (length pins) (length prices) ≡ None
   room =
       rw (
-        le-ltb (length starts) (n.nets + 1) (as_long _ s starts (n.nets + 1) starts_long filled.starts_are),
-        le-ltb (length pins) n.pins (as_long _ p pins n.pins (sym filled.counted.pins_are) filled.pins_are),
-        le-ltb (length prices) n.nets (as_long _ c prices n.nets prices_long filled.prices_are),
+        le-ltb (length starts) (n.nets + 1) (as_long _ s starts (n.nets + 1) starts_long filled.written.starts_are),
+        le-ltb (length pins) n.pins (as_long _ p pins n.pins (sym filled.counted.pins_are) filled.written.pins_are),
+        le-ltb (length prices) n.nets (as_long _ c prices n.nets prices_long filled.written.prices_are),
       )
 
   no_page_fault : page_fault bytes k.number ≡ None
   unfolding unpack_fault
   no_page_fault = (option_or_none (page_fault bytes k.number) _ filled.no_fault).0
 
+  counts : counts_fault n.modules n.nets ≡ None
+  counts = ap₂ counts_fault filled.counted.modules_are filled.counted.nets_are ∙ counts_fine bytes k.number no_page_fault
+
   pub filled_fault : counted_fault n starts pins prices ≡ None
   filled_fault =
-      or_none _ room
+      or_none _ counts
+      ∙ or_none _ room
       ∙ ap (λ (x : ℕ). tables_fault x (take (n.nets + 1) starts) (take n.pins pins) n.nets) filled.counted.modules_are
       ∙ ap (λ xs. tables_fault (modules_field bytes) xs (take n.pins pins) n.nets) starts_front
       ∙ ap (λ xs. tables_fault (modules_field bytes) (starts_table bytes (nets_field bytes)) xs n.nets) pins_front
@@ -155,24 +161,27 @@ pages_load k means n starts pins prices old new r loads bytes s p c filled =
     let l = loads_filled means (counted_fault n starts pins prices) (counted_meaning n starts pins prices) old new r loads (filled_fault k bytes s starts p pins c prices n filled) in
     (l.0, l.1 ∙ filled_meaning k bytes s starts p pins c prices n filled)
 
--- the first table that is too short
+-- What loading the first entries of tables tells.
 module _ {P : Type 0} (n : Counts) (starts pins : List ℕ) (prices : List P) where
+  -- the first fault, and the tables that were loaded before stay
+  pub fault_told : {S : Type 0} (k : Kind P) (means : S → Meaning P) (old : S) (r : Result (Unit {0}) Fault) (fault : Fault)
+      → counted_fault n starts pins prices ≡ Some fault → r ≡ Err fault
+      → Loads means (counted_fault n starts pins prices) (counted_meaning n starts pins prices) old old r × LoadsPages k n starts pins prices (means old) r
+  fault_told k means old r fault found told =
+      let loads : Loads means (counted_fault n starts pins prices) (counted_meaning n starts pins prices) old old r = rw told (found, refl) in
+      (loads, pages_load k means n starts pins prices old old r loads)
+
+-- What it tells where there are not too many modules or nets.
+module _ {P : Type 0} (n : Counts) (starts pins : List ℕ) (prices : List P) (counts : counts_fault n.modules n.nets ≡ None) where
+  -- the first table that is too short
   pub starts_short : length starts < n.nets + 1 → counted_fault n starts pins prices ≡ Some (TooShort 1)
-  starts_short h = rw (lt-ltb (length starts) (n.nets + 1) h)
+  starts_short h = rw (counts, lt-ltb (length starts) (n.nets + 1) h)
 
   pub pins_short : n.nets + 1 ≤ length starts → length pins < n.pins → counted_fault n starts pins prices ≡ Some (TooShort 2)
-  pins_short h i = rw (le-ltb (length starts) (n.nets + 1) h, lt-ltb (length pins) n.pins i)
+  pins_short h i = rw (counts, le-ltb (length starts) (n.nets + 1) h, lt-ltb (length pins) n.pins i)
 
   pub prices_short : n.nets + 1 ≤ length starts → n.pins ≤ length pins → length prices < n.nets → counted_fault n starts pins prices ≡ Some (TooShort 3)
-  prices_short h i j = rw (le-ltb (length starts) (n.nets + 1) h, le-ltb (length pins) n.pins i, lt-ltb (length prices) n.nets j)
-
-  -- a table that is too short is told, and the tables that were loaded before stay
-  pub short_told : {S : Type 0} (k : Kind P) (means : S → Meaning P) (old : S) (r : Result (Unit {0}) Fault) (table : ℕ)
-      → counted_fault n starts pins prices ≡ Some (TooShort table) → r ≡ Err (TooShort table)
-      → Loads means (counted_fault n starts pins prices) (counted_meaning n starts pins prices) old old r × LoadsPages k n starts pins prices (means old) r
-  short_told k means old r table short told =
-      let loads : Loads means (counted_fault n starts pins prices) (counted_meaning n starts pins prices) old old r = rw told (short, refl) in
-      (loads, pages_load k means n starts pins prices old old r loads)
+  prices_short h i j = rw (counts, le-ltb (length starts) (n.nets + 1) h, le-ltb (length pins) n.pins i, lt-ltb (length prices) n.nets j)
 
   -- tables long enough: loading their first entries has the fault of those entries, and means them
   pub counted_loads : {S : Type 0} (means : S → Meaning P) (old new : S) (r : Result (Unit {0}) Fault) (s p : List ℕ) (c : List P)
@@ -191,7 +200,7 @@ module _ {P : Type 0} (n : Counts) (starts pins : List ℕ) (prices : List P) wh
       (subst (λ xs. Loads means (tables_fault n.modules s' p' (length xs)) (tables_meaning n.modules s' p' xs) old new r) c_is
       (subst (λ xs. Loads means (tables_fault n.modules s' xs (length c)) (tables_meaning n.modules s' xs c) old new r) p_is
       (subst (λ xs. Loads means (tables_fault n.modules xs p (length c)) (tables_meaning n.modules xs p c) old new r) s_is loads))) in
-      subst (λ f. Loads means f (counted_meaning n starts pins prices) old new r) (sym (or_none _ room)) moved
+      subst (λ f. Loads means f (counted_meaning n starts pins prices) old new r) (sym (or_none _ counts ∙ or_none _ room)) moved
 
 -- what a part's end past the table says
 pub past_end : {m long : ℕ} → (m < 0) ⊎ (long < m) → long < m

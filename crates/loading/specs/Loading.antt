@@ -5,17 +5,19 @@ use Rattle.refusal.specs.declared.Fault.{Fault}
 use Rattle.price.specs.Kind.{Kind}
 use Rattle.netlist.specs.Meaning.{Meaning}
 use Rattle.bottom.specs.BottomMeaning.{bottom_meaning}
+use Rattle.bottom.specs.LoadFaults.{counts_fault}
 use Rattle.pin_tables.specs.Tables.{tables_fault, tables_meaning}
 use Rattle.page.specs.declared.counts.Counts.{Counts}
 use Rattle.page.specs.Layout.{modules_field, nets_field, pin_count, net_bit, net_pins, prices_table}
 use Rattle.page.specs.Faults.{room_fault}
 use Rattle.page.specs.Unpacking.{Filled}
 
--- the first fault of tables of which the first entries are loaded, as many as are counted
+-- the first fault where the first entries of tables are loaded, as many as are counted: too many modules or nets, a table that is too short, those entries' own
 abbrev pub counted_fault : {P : Type 0} → Counts → List ℕ → List ℕ → List P → Option Fault
 counted_fault n starts pins prices =
-    option_or (room_fault n.nets n.pins (length starts) (length pins) (length prices))
-    (tables_fault n.modules (take (n.nets + 1) starts) (take n.pins pins) n.nets)
+    option_or (counts_fault n.modules n.nets)
+    (option_or (room_fault n.nets n.pins (length starts) (length pins) (length prices))
+    (tables_fault n.modules (take (n.nets + 1) starts) (take n.pins pins) n.nets))
 
 abbrev pub counted_meaning : {P : Type 0} → Counts → List ℕ → List ℕ → List P → Meaning P
 counted_meaning n starts pins prices = tables_meaning n.modules (take (n.nets + 1) starts) (take n.pins pins) (take n.nets prices)

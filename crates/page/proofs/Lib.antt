@@ -4,3 +4,4 @@ pub mod PadLaws
 pub mod TableLaws
 pub mod PageLaws
 pub mod Accepted
+pub mod WantedKind

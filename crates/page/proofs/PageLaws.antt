@@ -21,6 +21,9 @@ module _ (bytes : List ℕ) (kind : ℕ) where
     unfolding page_fault
     nets_told e p = or_none _ headed ∙ or_some _ (nets_same _ p)
 
+    pub counts_are : (pins : ℕ) → pins ≡ length (pins_table bytes n) → Counted bytes (record { modules = m; nets = n; pins = pins })
+    counts_are pins e = record { modules_are = m_is; nets_are = n_is; pins_are = e ∙ ap (λ (x : ℕ). length (pins_table bytes x)) n_is }
+
     -- where the nets end
     pub pad_told : (end : ℕ) → nets_fault bytes m n ≡ None → end ≡ net_bit bytes n → (r : Option Fault) → pad_fault bytes end ≡ r → page_fault bytes kind ≡ r
     unfolding page_fault

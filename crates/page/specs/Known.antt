@@ -11,7 +11,7 @@ use Rattle.page.specs.declared.known.KnownKind.{KnownKind}
 use Rattle.page.specs.declared.known.UnknownKind.{UnknownKind}
 use Rattle.page.specs.declared.known.KnownKind.TheVariants.{Wires, TimersFirst, Widest}
 use Rattle.page.specs.Layout.{kind_field}
-use Rattle.page.specs.Faults.{ends}
+use Rattle.page.specs.Faults.{ends, page_fault}
 
 abbrev pub known_number : KnownKind → ℕ
 known_number Wires = (first.wires).number
@@ -32,3 +32,7 @@ Refuses e f = f ≡ OtherKind 0
 -- the page ends inside its kind, or names no known one
 abbrev pub known_fault : List ℕ → Option Fault
 known_fault bytes = option_or (ends bytes 0 4) (then_some (not (is_known (kind_field bytes))) (OtherKind 0))
+
+-- the page's own first fault, in the kind that it names
+abbrev pub own_fault : List ℕ → Option Fault
+own_fault bytes = option_or (known_fault bytes) (page_fault bytes (kind_field bytes))

@@ -1,4 +1,4 @@
--- What unpack answers and leaves.
+-- What unpacking a page answers and leaves.
 use Rattle.std.specs.Prelude.{◌≡◌, ℕ, ◌*◌, ◌^◌, ◌<◌, ◌≤◌, List, ◌++◌, length, drop, Some, None, Result, MatchResult}
 use Rattle.refusal.specs.declared.Fault.{Fault}
 use Rattle.price.specs.Kind.{Kind}
@@ -21,21 +21,34 @@ pub record Holds (bytes : List ℕ) (nets : ℕ) : Type 0 where
   pub early : net_bit bytes nets < 2 ^ 30
   pub whole : net_bit bytes nets ≤ 8 * length bytes
 
--- the page into tables of starts s, pins p and prices c, which are then s', p' and c'
+-- tables of starts s, pins p and prices c, which are then s', p' and c': all as they were
+pub record TablesStay {P : Type 0} (s s' p p' : List ℕ) (c c' : List P) : Type 0 where
+  pub starts_stay : s' ≡ s
+  pub pins_stay : p' ≡ p
+  pub prices_stay : c' ≡ c
+
+-- the page, and the same tables
 module _ {P : Type 0} (k : Kind P) (bytes : List ℕ) (s s' p p' : List ℕ) (c c' : List P) where
-  pub record Filled (n : Counts) : Type 0 where
-    pub no_fault : unpack_fault bytes k.number (length s) (length p) (length c) ≡ None
-    pub counted : Counted bytes n
+  -- its entries first, and later entries as they were
+  pub record TablesWritten : Type 0 where
     pub starts_are : Extends (starts_table bytes (nets_field bytes)) s s'
     pub pins_are : Extends (pins_table bytes (nets_field bytes)) p p'
     pub prices_are : Extends (prices_table bytes k (nets_field bytes)) c c'
 
+  pub record Filled (n : Counts) : Type 0 where
+    pub no_fault : unpack_fault bytes k.number (length s) (length p) (length c) ≡ None
+    pub counted : Counted bytes n
+    pub written : TablesWritten
+
   pub record Refused (e : Fault) : Type 0 where
     pub told : unpack_fault bytes k.number (length s) (length p) (length c) ≡ Some e
-    pub starts_stay : s' ≡ s
-    pub pins_stay : p' ≡ p
-    pub prices_stay : c' ≡ c
+    pub tables_stay : TablesStay s s' p p' c c'
 
 -- Unpack answers the counts and fills the tables where the page has no fault, and otherwise tells its first fault and leaves the tables.
 abbrev pub Unpacks : {P : Type 0} → Kind P → List ℕ → Result Counts Fault → List ℕ → List ℕ → List ℕ → List ℕ → List P → List P → Type 0
 Unpacks k bytes r s s' p p' c c' = MatchResult r (Filled k bytes s s' p p' c c') (Refused k bytes s s' p p' c c')
+
+-- Fill writes a checked page where it is of the kind and each table has room, and otherwise tells the first fault and leaves the tables.
+abbrev pub Fills : {P : Type 0} → Kind P → List ℕ → Result (Unit {0}) Fault → List ℕ → List ℕ → List ℕ → List ℕ → List P → List P → Type 0
+Fills k bytes r s s' p p' c c' =
+    MatchResult r (λ _. (unpack_fault bytes k.number (length s) (length p) (length c) ≡ None) × TablesWritten k bytes s s' p p' c c') (Refused k bytes s s' p p' c c')

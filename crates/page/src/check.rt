@@ -1,11 +1,9 @@
 //! The first pass over a page: every check, and nothing written.
 ghost use Rattle.std.specs.Prelude.{◌≡◌, ◌+◌, ◌*◌, ◌^◌, ◌<◌, ◌≤◌, length, Some, None, MatchResult};
 ghost use Rattle.page.specs.Layout.{modules_field, nets_field, net_bit, pins_table};
-ghost use Rattle.page.specs.Faults.{nets_fault, header_fault, pad_fault, page_fault, room_fault};
-ghost use Rattle.page.specs.Unpacking.{Counted, Holds};
+ghost use Rattle.page.specs.Faults.{nets_fault, header_fault, pad_fault};
 
 use crate::bits::{field, first_set};
-use crate::counts::Counts;
 use crate::net::Net;
 use netlist::limits::{MODULES_MOST, NETS_MOST};
 use price::Price;
@@ -13,26 +11,26 @@ use refusal::{Fault, Place};
 
 // The bits of the nets, by their end, with the number of their pins.
 #[derive(Clone, Copy)]
-struct Extent {
-    end: usize,
-    pins: usize,
+pub(crate) struct Extent {
+    pub(crate) end: usize,
+    pub(crate) pins: usize,
 }
 
 // What the header says.
 #[derive(Clone, Copy)]
-struct Header {
-    modules: u32,
-    nets: usize,
+pub(crate) struct Header {
+    pub(crate) modules: u32,
+    pub(crate) nets: usize,
 }
 
 // Looks at the header's fields, where a page of one price kind is wanted.
-fn check_header<P: Price>(bytes: &[u8]) -> Result<Header, Fault>
+pub(crate) fn check_header<P: Price>(bytes: &[u8]) -> Result<Header, Fault>
     ensures cases { MatchResult result
         (λ h. (header_fault bytes.now P.kind.number ≡ None) × (h.modules ≡ modules_field bytes.now)
         × (h.nets ≡ nets_field bytes.now) × (h.modules ≤ 64) × (h.nets ≤ 1024) × (22 ≤ 8 * length bytes.now))
         (λ e. header_fault bytes.now P.kind.number ≡ Some e) }
 {
-    if field(bytes, 0, 4)? != u32::from(P::number()) {
+    if field(bytes, 0, 4)? != u32::from(P::PAGE_NUMBER) {
         return Err(Fault::OtherKind { bit: 0 });
     }
     let modules = field(bytes, 4, 7)?;
@@ -47,7 +45,7 @@ fn check_header<P: Price>(bytes: &[u8]) -> Result<Header, Fault>
 }
 
 // Looks at the nets in their order.
-fn check_nets(bytes: &[u8], modules: u32, nets: usize) -> Result<Extent, Fault>
+pub(crate) fn check_nets(bytes: &[u8], modules: u32, nets: usize) -> Result<Extent, Fault>
     requires few { nets ≤ 1024 }
     requires headed { 22 ≤ 8 * length bytes.now }
     ensures cases { MatchResult result
@@ -67,7 +65,7 @@ fn check_nets(bytes: &[u8], modules: u32, nets: usize) -> Result<Extent, Fault>
 }
 
 // Looks at the bits after the last net: zero up to the byte's end, and no byte after it.
-fn check_pad(bytes: &[u8], end: usize) -> Result<(), Fault>
+pub(crate) fn check_pad(bytes: &[u8], end: usize) -> Result<(), Fault>
     requires early { end < 2 ^ 30 }
     requires whole { end ≤ 8 * length bytes.now }
     ensures cases { MatchResult result
@@ -80,47 +78,6 @@ fn check_pad(bytes: &[u8], end: usize) -> Result<(), Fault>
     }
     if bytes.len() > size {
         return Err(Fault::AfterLastNet { bit: 8 * size });
-    }
-    Ok(())
-}
-
-// Makes every check of a page of one price kind.
-pub(crate) fn check_page<P: Price>(bytes: &[u8]) -> Result<Counts, Fault>
-    ensures { MatchResult result
-        (λ n. (page_fault bytes.now P.kind.number ≡ None) × Counted bytes.now n × Holds bytes.now n.nets × (n.nets ≤ 1024))
-        (λ e. page_fault bytes.now P.kind.number ≡ Some e) }
-{
-    let header = check_header::<P>(bytes)?;
-    let extent = check_nets(bytes, header.modules, header.nets)?;
-    check_pad(bytes, extent.end)?;
-    Ok(Counts {
-        modules: header.modules as usize,
-        nets: header.nets,
-        pins: extent.pins,
-    })
-}
-
-// Looks at whether the tables have an entry for each start, pin and price.
-pub(crate) fn check_room<P>(
-    counts: Counts,
-    starts: &[u32],
-    pins: &[u8],
-    prices: &[P],
-) -> Result<(), Fault>
-    requires { counts.nets ≤ 1024 }
-    ensures { MatchResult result
-        (λ _. (room_fault counts.nets counts.pins (length starts.now) (length pins.now) (length prices.now) ≡ None)
-        × (counts.nets < length starts.now) × (counts.pins ≤ length pins.now) × (counts.nets ≤ length prices.now))
-        (λ e. room_fault counts.nets counts.pins (length starts.now) (length pins.now) (length prices.now) ≡ Some e) }
-{
-    if starts.len() < counts.nets + 1 {
-        return Err(Fault::TooShort { table: 1 });
-    }
-    if pins.len() < counts.pins {
-        return Err(Fault::TooShort { table: 2 });
-    }
-    if prices.len() < counts.nets {
-        return Err(Fault::TooShort { table: 3 });
     }
     Ok(())
 }

@@ -1,9 +1,12 @@
-//! Which of the three price kinds a page names in its first four bits.
+//! Which of the three price kinds a page names in its first four bits, and the page checked in that kind.
 ghost use Rattle.std.specs.Prelude.{◌≡◌, Some, None, MatchResult};
 ghost use Rattle.page.specs.Layout.{kind_field};
-ghost use Rattle.page.specs.Known.{Names, Refuses, known_number, known_fault};
+ghost use Rattle.page.specs.Known.{Names, Refuses, known_number, known_fault, own_fault};
+ghost use Rattle.page.specs.Unpacking.{Counted};
 
 use crate::bits::field;
+use crate::checked::{CheckedPage, check_page};
+use price::values::{TimersFirst, Widest, Wires};
 use refusal::Fault;
 
 /// The price kinds that a page can name.
@@ -51,4 +54,29 @@ pub fn known_kind(bytes: &[u8]) -> Result<KnownKind, Fault>
         (λ e. known_fault bytes.now ≡ Some e) }
 {
     Ok(KnownKind::try_from(field(bytes, 0, 4)?)?)
+}
+
+/// A checked page, with the price kind that it names.
+#[derive(Clone, Copy)]
+pub struct KnownPage<'a> {
+    pub kind: KnownKind,
+    pub page: CheckedPage<'a>,
+}
+
+/// The page that these bytes are, checked in the price kind that its first four bits name.
+///
+/// Refuses with what `known_kind` refuses, and then with the first fault of the page in that kind.
+pub fn check_known(bytes: &[u8]) -> Result<KnownPage<'_>, Fault>
+    ensures { MatchResult result
+        (λ known. (own_fault bytes.now ≡ None) × (known.page.bytes.now ≡ bytes.now) × Counted bytes.now known.page.counts
+        × (kind_field bytes.now ≡ known_number known.kind))
+        (λ e. own_fault bytes.now ≡ Some e) }
+{
+    let kind = known_kind(bytes)?;
+    let page = match kind {
+        KnownKind::Wires => check_page::<Wires>(bytes)?,
+        KnownKind::TimersFirst => check_page::<TimersFirst>(bytes)?,
+        KnownKind::Widest => check_page::<Widest>(bytes)?,
+    };
+    Ok(KnownPage { kind, page })
 }

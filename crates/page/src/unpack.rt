@@ -1,9 +1,8 @@
 //! Unpack: a page into the caller's tables.
 ghost use Rattle.page.specs.Unpacking.{Unpacks};
 
-use crate::check::{check_page, check_room};
+use crate::checked::check_page;
 use crate::counts::Counts;
-use crate::fill::fill_nets;
 use price::Price;
 use refusal::Fault;
 
@@ -11,7 +10,6 @@ use refusal::Fault;
 ///
 /// Refuses with the first fault of the page (1 to 4 and 6 to 9, at the first bit of its field), or else of the tables (10).
 /// A refusal leaves the tables as they were; an accepted page leaves their later entries.
-// Three slices: a struct that holds them would need a clause on each reference, and say no more.
 pub fn unpack_page<P: Price>(
     bytes: &[u8],
     starts: &mut [u32],
@@ -21,14 +19,7 @@ pub fn unpack_page<P: Price>(
     ensures { Unpacks P.kind bytes.now result
         starts.old starts.new pins.old pins.new prices.old prices.new }
 {
-    let counts = check_page::<P>(bytes)?;
-    // Tried: `get_mut` of each part, with `?`. After one that is refused nothing is known of the tables.
-    check_room(counts, starts, pins, prices)?;
-    fill_nets(
-        bytes,
-        &mut starts[..=counts.nets],
-        &mut pins[..counts.pins],
-        &mut prices[..counts.nets],
-    );
-    Ok(counts)
+    let page = check_page::<P>(bytes)?;
+    page.fill(starts, pins, prices)?;
+    Ok(page.counts)
 }

@@ -1,7 +1,7 @@
 //! Price kinds: what a kind of price owes, and the three kinds.
 #![tactic(auto)]
 
-ghost use Rattle.std.specs.Prelude.{◌≡◌, ◌<◌};
+ghost use Rattle.std.specs.Prelude.{◌≡◌, ℕ, ◌<◌};
 ghost use Rattle.price.specs.Kind.{Kind, Laws};
 
 pub mod timers_first;
@@ -9,7 +9,7 @@ pub mod values;
 pub mod widest;
 pub mod wires;
 
-/// A kind of price. `kind` says what each method answers, and the laws hold over all its values.
+/// A kind of price. `kind` says what each method answers and what the constant is, and the laws hold over all its values.
 // Methods, not `Ord`, `From` and `Into`: a kind owes no more than this interface, and two numbers stand for a price, told apart by name.
 pub trait Price: Copy {
     ghost kind: { Kind Self };
@@ -17,9 +17,8 @@ pub trait Price: Copy {
     /// The kind's number on a page.
     const PAGE_NUMBER: u8;
 
-    /// `PAGE_NUMBER`, with a promise. No law holds the constant to it: that would ask more of whoever implements a kind.
-    fn number() -> u8
-        ensures { result ≡ kind.number };
+    // The constant, so that a law can name it.
+    ghost PAGE_NUMBER: { ℕ };
 
     /// The price of nothing.
     fn zero() -> Self
@@ -42,6 +41,8 @@ pub trait Price: Copy {
         ensures { result ≡ kind.word self };
 
     ghost lawful: { Laws kind };
+
+    ghost numbered: { PAGE_NUMBER ≡ kind.number };
 
     ghost small: { kind.number < 16 };
 }

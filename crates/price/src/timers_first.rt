@@ -1,7 +1,7 @@
 //! Kind 2, timers first: compared by timers, and on equal timers by wires.
 ghost use Rattle.price.specs.TimersFirst.{timers_first};
 ghost use Rattle.price.specs.KindLaws.{timers_first_laws};
-ghost use Rattle.std.proofs.Common.{rules};
+ghost use Rattle.std.proofs.Common.{refl, rules};
 
 use crate::Price;
 use crate::values::TimersFirst;
@@ -11,13 +11,13 @@ impl Price for TimersFirst {
 
     const PAGE_NUMBER: u8 = 2;
 
+    ghost PAGE_NUMBER = { timers_first.number };
+
     ghost lawful = { timers_first_laws };
 
-    ghost small = { Prim.search rules };
+    ghost numbered = { refl };
 
-    fn number() -> u8 {
-        Self::PAGE_NUMBER
-    }
+    ghost small = { Prim.search rules };
 
     fn zero() -> TimersFirst {
         TimersFirst {

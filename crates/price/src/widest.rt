@@ -1,7 +1,7 @@
 //! Kind 3, widest: a number, joined by taking the greater.
 ghost use Rattle.price.specs.Widest.{widest as widest_kind};
 ghost use Rattle.price.specs.KindLaws.{widest_laws};
-ghost use Rattle.std.proofs.Common.{rules};
+ghost use Rattle.std.proofs.Common.{refl, rules};
 
 use crate::Price;
 use crate::values::Widest;
@@ -11,13 +11,13 @@ impl Price for Widest {
 
     const PAGE_NUMBER: u8 = 3;
 
+    ghost PAGE_NUMBER = { widest_kind.number };
+
     ghost lawful = { widest_laws };
 
-    ghost small = { Prim.search rules };
+    ghost numbered = { refl };
 
-    fn number() -> u8 {
-        Self::PAGE_NUMBER
-    }
+    ghost small = { Prim.search rules };
 
     fn zero() -> Widest {
         Widest { width: 0 }

@@ -1,7 +1,7 @@
 //! Kind 1, wires: a number, joined by an addition that stops at the greatest.
 ghost use Rattle.price.specs.Wires.{wires as wires_kind};
 ghost use Rattle.price.specs.KindLaws.{wires_laws};
-ghost use Rattle.std.proofs.Common.{rules};
+ghost use Rattle.std.proofs.Common.{refl, rules};
 
 use crate::Price;
 use crate::values::Wires;
@@ -11,13 +11,13 @@ impl Price for Wires {
 
     const PAGE_NUMBER: u8 = 1;
 
+    ghost PAGE_NUMBER = { wires_kind.number };
+
     ghost lawful = { wires_laws };
 
-    ghost small = { Prim.search rules };
+    ghost numbered = { refl };
 
-    fn number() -> u8 {
-        Self::PAGE_NUMBER
-    }
+    ghost small = { Prim.search rules };
 
     fn zero() -> Wires {
         Wires { count: 0 }

@@ -1,8 +1,8 @@
-use Rattle.std.proofs.Common.{ℕ, None, length, ap, ◌∙◌, arith}
+use Rattle.std.proofs.Common.{None, refl, arith}
 use Rattle.std.proofs.lemmas.Result.{err_from_is_err_and}
-use Rattle.page.specs.Layout.{pins_table}
-use Rattle.page.proofs.PageLaws.{header_told, nets_told, pad_told}
-use Rattle.page.proofs.check.check_page.Goals as goal
+use Rattle.page.proofs.PageLaws.{header_told, nets_told, counts_are, pad_told}
+use Rattle.page.proofs.Accepted.{own_fine}
+use Rattle.page.proofs.checked.check_page.Goals as goal
 
 pub returns-in_err-header : goal.returns-in_err-header
 returns-in_err-header g c =
@@ -22,13 +22,26 @@ returns-in_err-check_pad g c =
     let p = err_from_is_err_and c.from_residual-in_err-check_pad.result c.from_residual-in_err-check_pad.ensures.1 in
     rw (p.1, p.2) (pad_told c.args.bytes.now g.P.Price.kind.number _ _ h.0 h.1 h.2 _ n.0 n.1 _ c.in_err-check_pad.ensures.cases)
 
+pub invariant_of-result : goal.invariant_of-result
+invariant_of-result g c =
+    let b = c.args.bytes.now in
+    let kind = g.P.Price.kind.number in
+    let h = c.in_ok-header.ensures.cases in
+    let n = c.in_ok-extent.ensures.cases in
+    record {
+      fine = own_fine b kind (pad_told b kind _ _ h.0 h.1 h.2 _ n.0 n.1 None c.in_ok-check_pad.ensures.cases);
+      counted = counts_are b kind _ _ h.0 h.1 h.2 _ n.4;
+      few = omega arith;
+      holds = record { early = omega (arith, n); whole = omega (arith, n) };
+    }
+
 pub returns : goal.returns
 returns g c =
     let b = c.args.bytes.now in
+    let kind = g.P.Price.kind.number in
     let h = c.in_ok-header.ensures.cases in
     let n = c.in_ok-extent.ensures.cases in (
-      pad_told b g.P.Price.kind.number _ _ h.0 h.1 h.2 _ n.0 n.1 None c.in_ok-check_pad.ensures.cases,
-      record { modules_are = h.1; nets_are = h.2; pins_are = n.4 ∙ ap (λ (x : ℕ). length (pins_table b x)) h.2 },
-      record { early = omega (arith, n); whole = omega (arith, n) },
-      omega arith,
+      pad_told b kind _ _ h.0 h.1 h.2 _ n.0 n.1 None c.in_ok-check_pad.ensures.cases,
+      refl,
+      counts_are b kind _ _ h.0 h.1 h.2 _ n.4,
     )
