@@ -6,7 +6,7 @@ use netlist::limits::NETS_MOST;
 pub mod changes;
 pub mod questions;
 
-/// A netlist with more of its nets muted; what lies below stays as it is.
+/// A netlist with more of its nets muted. No call of this layer changes what lies below; straps are applied to it there (crate `standing`), so it is public.
 /// `row` marks the nets that this layer mutes, in fixed memory: a layer uses no heap.
 #[derive(Drop)]
 pub struct MuteLayer<N> {

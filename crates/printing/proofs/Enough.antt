@@ -1,5 +1,5 @@
 -- The first 54,148 bytes of a page and 65,537 of a script decide what is printed.
-use Rattle.std.proofs.Common.{◌≡◌, ℕ, ◌*◌, ◌/◌, ◌<◌, ◌≤◌, List, length, take, None, sym, ◌∙◌, subst, inl, inr, arith}
+use Rattle.std.proofs.Common.{◌≡◌, ℕ, ◌*◌, ◌/◌, ◌<◌, ◌≤◌, List, length, take, None, sym, ap, ◌∙◌, subst, inl, inr, arith}
 use Rattle.std.proofs.lemmas.Bool.{cases_lt}
 use Rattle.std.proofs.lemmas.List.{take_all, length-take-le, get_or-take}
 use Rattle.price.specs.Kind.{Kind}
@@ -7,7 +7,9 @@ use Rattle.price.specs.Wires.{wires}
 use Rattle.price.specs.TimersFirst.{timers_first}
 use Rattle.price.specs.Widest.{widest}
 use Rattle.page.specs.Bits.{bit_at}
+use Rattle.page.specs.Layout.{kind_field}
 use Rattle.page.specs.Faults.{page_fault}
+use Rattle.page.specs.Known.{own_fault}
 use Rattle.printing.specs.Printed.{PrintedIn, Printed}
 use Rattle.printing.specs.FirstBytes.{FirstBytesDecide}
 use Rattle.printing.proofs.Longest.{at_most}
@@ -35,15 +37,20 @@ module _ (page : List ℕ) (n : ℕ) (enough : 54148 ≤ n) (longer : n < length
         run = λ none short. absurd (refused none);
       }
 
-  long_page : (script script' bytes : List ℕ) → Printed (take n page) script' bytes → Printed page script bytes
-  long_page script script' bytes given =
+  long_own : own_fault page ≡ own_fault (take n page)
+  long_own =
       let known = known_same page (take n page) n (bits_taken page n) (omega arith) (omega (arith, taken)) enough in
       let kind = kind_same page (take n page) n (bits_taken page n) (omega arith) (omega (arith, taken)) enough in
+      rw (known, taken_fault (kind_field page), kind)
+
+  long_page : (script script' bytes : List ℕ) → Printed (take n page) script' bytes → Printed page script bytes
+  long_page script script' bytes given =
+      let kind = kind_same page (take n page) n (bits_taken page n) (omega arith) (omega (arith, taken)) enough in
       record {
-        no_kind = λ fault told. given.no_kind fault (sym known ∙ told);
-        in_wires = λ none named. long_in wires script script' bytes (given.in_wires (sym known ∙ none) (sym kind ∙ named));
-        in_timers_first = λ none named. long_in timers_first script script' bytes (given.in_timers_first (sym known ∙ none) (sym kind ∙ named));
-        in_widest = λ none named. long_in widest script script' bytes (given.in_widest (sym known ∙ none) (sym kind ∙ named));
+        refused = λ fault told. given.refused fault (sym long_own ∙ told);
+        in_wires = λ none named. long_in wires script script' bytes (given.in_wires (sym long_own ∙ none) (sym kind ∙ named));
+        in_timers_first = λ none named. long_in timers_first script script' bytes (given.in_timers_first (sym long_own ∙ none) (sym kind ∙ named));
+        in_widest = λ none named. long_in widest script script' bytes (given.in_widest (sym long_own ∙ none) (sym kind ∙ named));
       }
 
 -- a script of more than the first n bytes
@@ -60,11 +67,19 @@ module _ (page script : List ℕ) (n : ℕ) (enough : 65537 ≤ n) (longer : n <
   long_script : (bytes : List ℕ) → Printed page (take n script) bytes → Printed page script bytes
   long_script bytes given =
       record {
-        no_kind = given.no_kind;
+        refused = given.refused;
         in_wires = λ none named. long_script_in wires bytes (given.in_wires none named);
         in_timers_first = λ none named. long_script_in timers_first bytes (given.in_timers_first none named);
         in_widest = λ none named. long_script_in widest bytes (given.in_widest none named);
       }
+
+-- The first fault of a page's first bytes is the whole page's.
+pub own_same : (page : List ℕ) (n : ℕ) → 54148 ≤ n → own_fault (take n page) ≡ own_fault page
+own_same page n enough =
+    elim (cases_lt n (length page)) [
+      | inl longer ↦ sym (long_own page n enough longer)
+      | inr short ↦ ap own_fault (take_all n page (omega arith))
+    ]
 
 pub first_bytes_decide : (of_page of_script : ℕ) → 54148 ≤ of_page → 65537 ≤ of_script → FirstBytesDecide of_page of_script
 unfolding FirstBytesDecide

@@ -5,3 +5,4 @@ pub mod Agree
 pub mod AgreeWhole
 pub mod Enough
 pub mod ReadPart
+pub mod Answered

@@ -6,7 +6,7 @@ use Rattle.price.specs.Wires.{wires}
 use Rattle.price.specs.TimersFirst.{timers_first}
 use Rattle.price.specs.Widest.{widest}
 use Rattle.page.specs.Layout.{kind_field}
-use Rattle.page.specs.Known.{known_fault}
+use Rattle.page.specs.Known.{own_fault}
 use Rattle.page.specs.Faults.{page_fault}
 use Rattle.loading.specs.Loading.{page_meaning}
 use Rattle.lines.specs.Lines.{page_line, script_line}
@@ -25,9 +25,9 @@ pub record PrintedIn {P : Type 0} (k : Kind P) (page script bytes : List ℕ) : 
   pub too_long : page_fault page k.number ≡ None → 65536 < length script → bytes ≡ script_line
   pub run : page_fault page k.number ≡ None → length script ≤ 65536 → PageSession k page script bytes
 
--- In the price kind that the page's first four bits name; a page that names none is refused alone.
+-- Of a page with a fault of its own that alone; of any other in the price kind that its first four bits name.
 pub record Printed (page script bytes : List ℕ) : Type 0 where
-  pub no_kind : (fault : Fault) → known_fault page ≡ Some fault → bytes ≡ page_line fault
-  pub in_wires : known_fault page ≡ None → kind_field page ≡ wires.number → PrintedIn wires page script bytes
-  pub in_timers_first : known_fault page ≡ None → kind_field page ≡ timers_first.number → PrintedIn timers_first page script bytes
-  pub in_widest : known_fault page ≡ None → kind_field page ≡ widest.number → PrintedIn widest page script bytes
+  pub refused : (fault : Fault) → own_fault page ≡ Some fault → bytes ≡ page_line fault
+  pub in_wires : own_fault page ≡ None → kind_field page ≡ wires.number → PrintedIn wires page script bytes
+  pub in_timers_first : own_fault page ≡ None → kind_field page ≡ timers_first.number → PrintedIn timers_first page script bytes
+  pub in_widest : own_fault page ≡ None → kind_field page ≡ widest.number → PrintedIn widest page script bytes

@@ -1,21 +1,23 @@
 //! A page and a script answered.
-ghost use Rattle.std.specs.Prelude.{◌≤◌, length};
-ghost use Rattle.page.specs.Unpacking.{Filled};
-ghost use Rattle.printing.specs.PageRuns.{AnswerPage, ScriptOn};
+ghost use Rattle.std.specs.Prelude.{◌≡◌, length, None, nat_lt};
+ghost use Rattle.page.specs.Faults.{page_fault};
+ghost use Rattle.printing.specs.PageRuns.{AnswerPage, ScriptOn, script_room};
 
 use crate::limits::SCRIPT_MOST;
+use lines::LINE_ROOM;
 use lines::writing::{Line, write_line};
 use loading::load_unpacked;
+use page::checked::{CheckedPage, check_page};
 use page::counts::Counts;
-use page::unpack::unpack_page;
 use pin_tables::PinTables;
 use price::Price;
 use refusal::Fault;
+use script::scripts::line_count;
 use session::whole_script::run_script;
 
 /// Unpacks a page into the tables, runs a script on a new plan over its netlist, and writes what the program prints. Answers how many bytes that took; later bytes stay.
-/// A refused page is answered by its line alone, and then a script of more than 65,536 bytes by its line alone.
-/// Refused: a buffer that is too short for the lines to be written (10, table 1), which stays as it was.
+/// A refused page is answered by its line alone, as are tables that are too short for it, and then a script of more than 65,536 bytes by its line alone.
+/// Refused: a buffer of fewer than 37 bytes, or fewer than 37 for each line of a script that is run (10, table 1). Then the tables, the cells and the buffer stay as they were.
 pub fn answer_page<P: Price>(
     page: &[u8],
     script: &[u8],
@@ -28,10 +30,52 @@ pub fn answer_page<P: Price>(
     ensures { AnswerPage P.kind page.now script.now starts.old starts.new pins.old pins.new prices.old prices.new
         cells.old cells.new out.old out.new result }
 {
-    match unpack_page(page, starts, pins, prices) {
-        Ok(counts) => answer_script(counts, starts, pins, prices, script, cells, out),
+    match check_page::<P>(page) {
+        Ok(page) => answer_checked(&page, script, starts, pins, prices, cells, out),
         Err(fault) => write_line(Line::PageRefused { fault }, out),
     }
+}
+
+// The same of a page that has passed its checks. Nothing is written into the tables before the buffer is known to suffice.
+pub(crate) fn answer_checked<P: Price>(
+    page: &CheckedPage<'_>,
+    script: &[u8],
+    starts: &mut [u32],
+    pins: &mut [u8],
+    prices: &mut [P],
+    cells: &mut [P],
+    out: &mut [u8],
+) -> Result<usize, Fault>
+    requires { page_fault page.now.bytes.now P.kind.number ≡ None }
+    ensures { AnswerPage P.kind page.now.bytes.now script.now starts.old starts.new pins.old pins.new prices.old prices.new
+        cells.old cells.new out.old out.new result }
+{
+    if let Err(fault) = page.check_room(starts, pins, prices) {
+        return write_line(Line::PageRefused { fault }, out);
+    }
+    if out.len() < room_for(script) {
+        return Err(Fault::TooShort { table: 1 });
+    }
+    page.fill(starts, pins, prices)?;
+    answer_script(page.counts, starts, pins, prices, script, cells, out)
+}
+
+// How many bytes the answers to a script take at most.
+pub(crate) fn room_for(script: &[u8]) -> usize
+    ensures { result ≡ script_room script.now }
+{
+    if is_too_long(script) {
+        LINE_ROOM
+    } else {
+        LINE_ROOM * line_count(script)
+    }
+}
+
+// Whether a script has more bytes than any that is run.
+fn is_too_long(script: &[u8]) -> bool
+    ensures { result ≡ nat_lt 65536 (length script.now) }
+{
+    script.len() > SCRIPT_MOST
 }
 
 // Runs a script on a new plan over the netlist of a page that was unpacked into these tables.
@@ -47,7 +91,7 @@ fn answer_script<'a, P: Price>(
 ) -> Result<usize, Fault>
     ensures { ScriptOn P.kind counts starts.now pins.now prices.now script.now cells.old cells.new out.old out.new result }
 {
-    if script.len() > SCRIPT_MOST {
+    if is_too_long(script) {
         return write_line(Line::ScriptTooLong, out);
     }
     let mut netlist = PinTables::empty();

@@ -1,12 +1,20 @@
 //! What is printed of a page and a script that come from readers.
 ghost use Rattle.std.specs.Prelude.{IfOk, IfErr, OnOk};
-ghost use Rattle.printing.specs.Readers.{FirstOf, PrintedOf, WrittenOf, StaysUnlessOutput};
+ghost use Rattle.streams.specs.Streams.{TakesAtMost};
+ghost use Rattle.streams.specs.Errors.{Answered};
+ghost use Rattle.printing.specs.Readers.{PrintedOf, WrittenOf, PartWrittenOf, RefusedAlone, ReadersErrorOf, StaysUnlessOutput, OnOutput};
 
-use crate::kinds::print_all;
+use crate::kinds::print_known;
+use crate::printing::print_line;
 use crate::reading::read_most;
+use lines::writing::Line;
+use page::known::check_known;
 use std::alloc::{AllocError, Global};
 use std::io;
-use std::io::{Read, Write};
+use streams::reading::{ReadError, read_first};
+use streams::sinks::Sink;
+use streams::sources::Source;
+use streams::writing::write_whole;
 
 /// What kept a page and a script from being printed.
 #[derive(Debug, Drop)]
@@ -15,48 +23,61 @@ pub enum PrintError {
     Page(io::Error),
     /// The script could not be read.
     Script(io::Error),
-    /// There was no memory for what is printed.
+    /// There was no memory for what is read or printed.
     Memory(AllocError),
     /// What is printed could not be written.
     Output(io::Error),
 }
 
-/// Reads a page and then a script as far as they count, and writes what is printed of them.
-/// Nothing is written where either can't be read or memory runs out.
-pub fn print_to<R: Read + Drop, S: Read + Drop, W: Write>(
+/// Reads a page and, where it is accepted, a script, as far as they count, and writes what is printed of them.
+/// An error is told of the reader or the writer that answered it, or of memory where neither reader failed. The writer has then what it had, or where it failed, a first part of what is printed too.
+pub fn print_to<R: Source, S: Source, W: Sink>(
     heap: Global,
-    page: R,
-    script: S,
+    page: &mut R,
+    script: &mut S,
     out: &mut W,
 ) -> Result<(), PrintError>
-    ensures written { OnOk result (WrittenOf (R.remaining page) (S.remaining script) (W.contents out.old) (W.contents out.new)) }
-    ensures stays { IfErr result (λ error. StaysUnlessOutput error (W.contents out.old) (W.contents out.new)) }
+    ensures written { OnOk result (WrittenOf (R.remaining page.old) (R.remaining page.new) (S.remaining script.old) (S.remaining script.new) (W.contents out.old) (W.contents out.new)) }
+    ensures page_taken { TakesAtMost 54148 (R.remaining page.old) (R.remaining page.new) }
+    ensures script_taken { TakesAtMost 65537 (S.remaining script.old) (S.remaining script.new) }
+    ensures refused_alone { RefusedAlone (R.remaining page.old) script.old script.new }
+    ensures readers_error { IfErr result (ReadersErrorOf R.fails S.fails R.remaining S.remaining page.old page.new script.old script.new) }
+    ensures stays { IfErr result (StaysUnlessOutput out.old out.new) }
+    ensures writer_error { IfErr result (OnOutput (Answered W.fails out.new)) }
+    ensures part { IfErr result (OnOutput (λ _. PartWrittenOf (R.remaining page.old) (R.remaining page.new) (S.remaining script.old) (S.remaining script.new) (W.contents out.old) (W.contents out.new))) }
 {
     let bytes = print_from(heap, page, script)?;
-    out.write_all(bytes.as_slice()).map_err(PrintError::Output)
+    write_whole(out, bytes.as_slice()).map_err(PrintError::Output)
 }
 
-/// Reads a page and then a script as far as they count, and answers what is printed of them.
-#[tactic(auto, using(crate::proofs::ReadPart::part_decides))]
-pub fn print_from<R: Read + Drop, S: Read + Drop>(
+/// Reads a page and, where it is accepted, a script, as far as they count, and answers what is printed of them.
+/// An error is told of the reader that answered it, or of memory where neither failed.
+#[tactic(auto, using(crate::proofs::ReadPart::accepted_whole, crate::proofs::ReadPart::not_refused))]
+pub fn print_from<R: Source, S: Source>(
     heap: Global,
-    page: R,
-    script: S,
+    page: &mut R,
+    script: &mut S,
 ) -> Result<Vec<u8>, PrintError>
-    ensures { IfOk result (λ printed. PrintedOf (R.remaining page) (S.remaining script) printed.items) }
+    ensures printed { IfOk result (λ printed. PrintedOf (R.remaining page.old) (R.remaining page.new) (S.remaining script.old) (S.remaining script.new) printed.items) }
+    ensures page_taken { TakesAtMost 54148 (R.remaining page.old) (R.remaining page.new) }
+    ensures script_taken { TakesAtMost 65537 (S.remaining script.old) (S.remaining script.new) }
+    ensures refused_alone { RefusedAlone (R.remaining page.old) script.old script.new }
+    ensures error { IfErr result (ReadersErrorOf R.fails S.fails R.remaining S.remaining page.old page.new script.old script.new) }
+    ensures no_output { IfErr result (OnOutput (λ _. ⊥)) }
 {
     let most = read_most();
-    let page = read_up_to(heap, page, most.page).map_err(PrintError::Page)?;
-    let script = read_up_to(heap, script, most.script).map_err(PrintError::Script)?;
-    print_all(heap, page.as_slice(), script.as_slice()).map_err(PrintError::Memory)
-}
-
-// The bytes that a reader gives, up to so many.
-#[tactic(auto, unfolding(crate::specs::Readers::FirstOf))]
-fn read_up_to<R: Read + Drop>(heap: Global, source: R, most: u64) -> io::Result<Vec<u8>>
-    ensures { IfOk result (λ bytes. FirstOf most (R.remaining source) bytes.items) }
-{
-    let mut bytes = Vec::new(heap);
-    source.take(most).read_to_end(&mut bytes)?;
-    Ok(bytes)
+    let page = read_first(heap, page, most.page).map_err(|error| match error {
+        ReadError::Memory(error) => PrintError::Memory(error),
+        ReadError::Reader(error) => PrintError::Page(error),
+    })?;
+    match check_known(page.as_slice()) {
+        Ok(known) => {
+            let script = read_first(heap, script, most.script).map_err(|error| match error {
+                ReadError::Memory(error) => PrintError::Memory(error),
+                ReadError::Reader(error) => PrintError::Script(error),
+            })?;
+            print_known(heap, &known, script.as_slice()).map_err(PrintError::Memory)
+        }
+        Err(fault) => { print_line(heap, Line::PageRefused { fault }).map_err(PrintError::Memory) }
+    }
 }

@@ -7,8 +7,8 @@ use crate::limits::{PAGE_MOST, SCRIPT_MOST};
 /// How many bytes of a page and of a script are read at most.
 #[derive(Clone, Copy)]
 pub struct ReadMost {
-    pub page: u64,
-    pub script: u64,
+    pub page: usize,
+    pub script: usize,
 }
 
 /// One byte more than the longest page has and than the longest script has, so that a longer one is seen: these first bytes decide what is printed.
@@ -19,7 +19,7 @@ pub fn read_most() -> ReadMost
     ensures decide { FirstBytesDecide result.page result.script }
 {
     ReadMost {
-        page: PAGE_MOST as u64 + 1,
-        script: SCRIPT_MOST as u64 + 1,
+        page: PAGE_MOST + 1,
+        script: SCRIPT_MOST + 1,
     }
 }

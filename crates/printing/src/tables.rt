@@ -20,16 +20,30 @@ pub struct Tables<P> {
 }
 
 impl<P: Price> Tables<P> {
-    /// Tables with zero in each place; of prices, whose clones a kind does not promise equal, only how many is told.
+    /// Tables with zero in each place.
     pub fn new(heap: Global) -> Result<Tables<P>, AllocError>
         ensures starts { IfOk result (λ tables. vec_items tables.starts ≡ replicate 1025 0) }
         ensures pins { IfOk result (λ tables. vec_items tables.pins ≡ replicate 65536 0) }
+        ensures prices { IfOk result (λ tables. vec_items tables.prices ≡ replicate 1024 P.kind.zero) }
+        ensures cells { IfOk result (λ tables. vec_items tables.cells ≡ replicate 64 P.kind.zero) }
     {
         Ok(Tables {
             starts: vec![in heap; 0u32; NETS_MOST + 1]?,
             pins: vec![in heap; 0u8; PINS_MOST]?,
-            prices: vec![in heap; P::zero(); NETS_MOST]?,
-            cells: vec![in heap; P::zero(); MODULES_MOST]?,
+            prices: zeros(heap, NETS_MOST)?,
+            cells: zeros(heap, MODULES_MOST)?,
         })
     }
+}
+
+// So many prices of zero. Not by `vec!`: nothing says that a clone of a kind's price is that price.
+fn zeros<P: Price>(heap: Global, count: usize) -> Result<Vec<P>, AllocError>
+    ensures len { IfOk result (λ prices. vec_len prices ≡ count) }
+    ensures items { IfOk result (λ prices. vec_items prices ≡ replicate count P.kind.zero) }
+{
+    let mut prices = Vec::with_capacity(heap, count)?;
+    for _ in 0..count {
+        prices.push(P::zero())?;
+    }
+    Ok(prices)
 }

@@ -2,6 +2,12 @@
 #![tactic(auto)]
 
 #[cfg(test)]
+mod answering_tests;
+#[cfg(test)]
+mod comparing;
+#[cfg(test)]
+mod fitful;
+#[cfg(test)]
 mod printed_tests;
 #[cfg(test)]
 mod readers_tests;

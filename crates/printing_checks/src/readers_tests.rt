@@ -1,59 +1,95 @@
 //! What is printed of a page and a script that come from readers, and which error a reader or a writer that fails is answered by.
+use crate::comparing::equal;
+use crate::fitful::{Broken, Fitful};
 use fixtures::small_page::SMALL;
 use printing::readers::{PrintError, print_from, print_to};
-use std::io;
-use std::io::{ErrorKind, Read, Write};
+use std::io::ErrorKind;
 use std::test::Fail;
+use streams::sinks::AnyWriter;
+use streams::sources::AnyReader;
 
-// Fails at each read and at each write.
-#[derive(Drop)]
-struct Broken {}
-
-impl Read for Broken {
-    fn read(&mut self, _buf: &mut [u8]) -> io::Result<usize> {
-        Err(io::Error::from(ErrorKind::BrokenPipe))
-    }
-}
-
-impl Write for Broken {
-    fn write(&mut self, _buf: &[u8]) -> io::Result<usize> {
-        Err(io::Error::from(ErrorKind::BrokenPipe))
-    }
-
-    fn flush(&mut self) -> io::Result<()> {
-        Ok(())
-    }
-}
+const LINE: &[u8] = b"ok 2000000000000000 0000000000000003\n";
 
 #[test]
 fn one_line_answered_and_written(rt: HostRuntime) -> Result<(), Fail> {
-    let printed = match print_from(rt.alloc(), SMALL.as_slice(), b"p".as_slice()) {
+    let printed = match print_from(rt.alloc(), &mut SMALL.as_slice(), &mut b"p".as_slice()) {
         Ok(printed) => printed,
         Err(_) => Vec::new(rt.alloc()),
     };
-    let line = b"ok 2000000000000000 0000000000000003\n".as_slice();
-    assert_eq!(rt; printed.as_slice(), line);
+    equal(&rt, printed.as_slice(), LINE);
     let mut out = Vec::new(rt.alloc());
-    let done = print_to(rt.alloc(), SMALL.as_slice(), b"p".as_slice(), &mut out);
-    assert!(rt; matches!(&done, Ok(())));
-    assert_eq!(rt; out.as_slice(), line);
+    let done = print_to(
+        rt.alloc(),
+        &mut SMALL.as_slice(),
+        &mut b"p".as_slice(),
+        &mut out,
+    );
+    equal(&rt, told(done), None);
+    equal(&rt, out.as_slice(), LINE);
     Ok(())
+}
+
+#[test]
+fn read_and_written_byte_by_byte(rt: HostRuntime) -> Result<(), Fail> {
+    let mut page = AnyReader(Fitful {
+        inner: SMALL.as_slice(),
+        interrupted: false,
+    });
+    let mut script = AnyReader(Fitful {
+        inner: b"p".as_slice(),
+        interrupted: true,
+    });
+    let mut out = AnyWriter(Fitful {
+        inner: Vec::new(rt.alloc()),
+        interrupted: false,
+    });
+    let done = print_to(rt.alloc(), &mut page, &mut script, &mut out);
+    equal(&rt, told(done), None);
+    equal(&rt, out.0.inner.as_slice(), LINE);
+    Ok(())
+}
+
+// Whose error was told, and of which kind.
+fn told(answer: Result<(), PrintError>) -> Option<(&'static str, ErrorKind)> {
+    match answer.err()? {
+        PrintError::Page(error) => Some(("page", error.kind())),
+        PrintError::Script(error) => Some(("script", error.kind())),
+        PrintError::Memory(_) => Some(("memory", ErrorKind::OutOfMemory)),
+        PrintError::Output(error) => Some(("output", error.kind())),
+    }
 }
 
 #[test]
 fn what_fails_is_told(rt: HostRuntime) -> Result<(), Fail> {
     let mut out = Vec::new(rt.alloc());
-    let page = print_to(rt.alloc(), Broken {}, Broken {}, &mut out);
-    assert!(rt; matches!(&page, Err(PrintError::Page(_))));
-    let script = print_to(rt.alloc(), SMALL.as_slice(), Broken {}, &mut out);
-    assert!(rt; matches!(&script, Err(PrintError::Script(_))));
-    assert_eq!(rt; out.len(), 0);
+    let mut broken = AnyReader(Broken {});
+    let page = print_to(rt.alloc(), &mut broken, &mut AnyReader(Broken {}), &mut out);
+    equal(&rt, told(page), Some(("page", ErrorKind::BrokenPipe)));
+    let script = print_to(rt.alloc(), &mut SMALL.as_slice(), &mut broken, &mut out);
+    equal(&rt, told(script), Some(("script", ErrorKind::BrokenPipe)));
+    equal(&rt, out.len(), 0);
     let output = print_to(
         rt.alloc(),
-        SMALL.as_slice(),
-        b"p".as_slice(),
-        &mut Broken {},
+        &mut SMALL.as_slice(),
+        &mut b"p".as_slice(),
+        &mut AnyWriter(Broken {}),
     );
-    assert!(rt; matches!(&output, Err(PrintError::Output(_))));
+    equal(&rt, told(output), Some(("output", ErrorKind::BrokenPipe)));
+    Ok(())
+}
+
+#[test]
+fn a_refused_page_beside_a_script_that_fails(rt: HostRuntime) -> Result<(), Fail> {
+    let mut page = SMALL;
+    page[15] = 0x31;
+    let mut out = Vec::new(rt.alloc());
+    let done = print_to(
+        rt.alloc(),
+        &mut page.as_slice(),
+        &mut AnyReader(Broken {}),
+        &mut out,
+    );
+    equal(&rt, told(done), None);
+    equal(&rt, out.as_slice(), b"page no 9 at 127\n".as_slice());
     Ok(())
 }

@@ -4,13 +4,21 @@
 use printing::readers::{PrintError, print_to};
 use std::fs::File;
 use std::io;
+use streams::sinks::AnyWriter;
+use streams::sources::AnyReader;
 
 fn main(rt: HostRuntime) -> anyhow::Result<()> {
     let page = match File::open(&rt, "bench.page") {
         Ok(page) => page,
         Err(error) => return unread(&rt, "bench.page", error),
     };
-    match print_to(rt.alloc(), page, rt.stdin(), &mut rt.stdout()) {
+    let printed = print_to(
+        rt.alloc(),
+        &mut AnyReader(page),
+        &mut AnyReader(rt.stdin()),
+        &mut AnyWriter(rt.stdout()),
+    );
+    match printed {
         Ok(()) => Ok(()),
         Err(PrintError::Page(error)) => unread(&rt, "bench.page", error),
         Err(PrintError::Script(error)) => unread(&rt, "standard input", error),

@@ -5,8 +5,8 @@ pub invariant_of-result : goal.invariant_of-result
 invariant_of-result g c = record {
   starts_room = c.in_ok-vec.ensures.len;
   pins_room = c.in_ok-vec-2.ensures.len;
-  prices_room = c.in_ok-vec-3.ensures.len;
-  cells_room = c.in_ok-vec-4.ensures.len;
+  prices_room = c.in_ok-zeros.ensures.len;
+  cells_room = c.in_ok-zeros-2.ensures.len;
 }
 
 pub returns-clause-pins : goal.returns-clause-pins

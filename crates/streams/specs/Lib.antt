@@ -1,0 +1,2 @@
+pub mod Streams
+pub mod Errors
