@@ -1,7 +1,7 @@
 -- What an accepted page's fields and tables are known to say.
 use Rattle.std.proofs.Common.{◌≡◌, ℕ, zero, suc, ◌<◌, ◌≤◌, not, eqb, ltb, List, [], ◌∷◌, ◌++◌, length, get_or, None, sym, ap, ◌∙◌, subst, inl, inr, arith}
 use Rattle.std.proofs.lemmas.List.{append_assoc, append-nil, get_or_append_left, get_or_push}
-use Rattle.std.proofs.lemmas.Bool.{cases_lt, eqb-true, ltb-false, not-false}
+use Rattle.std.proofs.lemmas.Bool.{cases_lt, ltb-false}
 use Rattle.std.specs.Option.{option_or}
 use Rattle.std.specs.Bool.{then_some}
 use Rattle.refusal.specs.declared.Place.TheVariants.{Bit}
@@ -11,6 +11,7 @@ use Rattle.refusal.proofs.CheckLaws.{option_or_none, then_some_none, none_at}
 use Rattle.page.specs.Layout.{kind_field, modules_field, nets_field, pin, pin_count, price_bit, net_bit, net_pins, pins_table, starts_table}
 use Rattle.page.specs.Faults.{ends, pin_fault, net_fault, nets_fault, header_fault, page_fault}
 use Rattle.page.proofs.PinLaws.{passed}
+use Rattle.page.proofs.PageLaws.{same_kind}
 use Rattle.page.proofs.TableLaws.{length_net_pins, length_starts}
 
 module _ (bytes : List ℕ) where
@@ -69,7 +70,7 @@ module _ (bytes : List ℕ) where
     own_kind : kind_field bytes ≡ kind
     own_kind =
         let a = option_or_none (ends bytes 0 4) _ headed in
-        eqb-true (kind_field bytes) kind (not-false _ (then_some_none _ (OtherKind 0) (option_or_none (then_some (not (eqb (kind_field bytes) kind)) (OtherKind 0)) _ a.1).0))
+        same_kind bytes kind (option_or_none (then_some (not (eqb (kind_field bytes) kind)) (OtherKind 0)) _ a.1).0
 
     pub own_fine : page_fault bytes (kind_field bytes) ≡ None
     own_fine = subst (λ (x : ℕ). page_fault bytes x ≡ None) (sym own_kind) fine

@@ -1,13 +1,19 @@
 -- Laws of a whole page's fault: which of its parts tells it.
-use Rattle.std.proofs.Common.{◌≡◌, ℕ, List, length, Some, None, Option, ap, ◌∙◌, subst}
+use Rattle.std.proofs.Common.{◌≡◌, ℕ, not, eqb, List, length, Some, None, Option, ap, ◌∙◌, subst}
+use Rattle.std.proofs.lemmas.Bool.{eqb-true, not-false}
+use Rattle.std.specs.Bool.{then_some}
 use Rattle.refusal.specs.declared.Fault.{Fault}
+use Rattle.refusal.specs.declared.Fault.TheVariants.{OtherKind}
 use Rattle.page.specs.declared.counts.Counts.{Counts}
-use Rattle.page.specs.Layout.{modules_field, nets_field, net_bit, pins_table}
+use Rattle.page.specs.Layout.{kind_field, modules_field, nets_field, net_bit, pins_table}
 use Rattle.page.specs.Faults.{header_fault, nets_fault, pad_fault, room_fault, page_fault, unpack_fault}
 use Rattle.page.specs.Unpacking.{Counted}
-use Rattle.refusal.proofs.CheckLaws.{or_some, or_none}
+use Rattle.refusal.proofs.CheckLaws.{or_some, or_none, then_some_none}
 
 module _ (bytes : List ℕ) (kind : ℕ) where
+  pub same_kind : then_some (not (eqb (kind_field bytes) kind)) (OtherKind 0) ≡ None → kind_field bytes ≡ kind
+  same_kind same = eqb-true (kind_field bytes) kind (not-false _ (then_some_none _ (OtherKind 0) same))
+
   pub header_told : (e : Fault) → header_fault bytes kind ≡ Some e → page_fault bytes kind ≡ Some e
   unfolding page_fault
   header_told e p = or_some _ p

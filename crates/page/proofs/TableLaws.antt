@@ -4,7 +4,7 @@ use Rattle.std.proofs.lemmas.List.{append_assoc, length-append, set_at, drop_mor
 use Rattle.std.proofs.lemmas.Bool.{cases_lt}
 use Rattle.price.specs.Kind.{Kind}
 use borrow.Rule.Slice.PartMut.{put_mid}
-use Rattle.page.specs.Unpacking.{Holds, Extends}
+use Rattle.page.specs.Unpacking.{Holds, Extends, TablesStay}
 use Rattle.page.specs.Layout.{pin, pin_count, price_field, net_end, net_bit, net_pins, pins_table, starts_table, prices_table}
 
 -- one more entry written after those of xs, over a table
@@ -15,6 +15,10 @@ put_more xs table n v e h =
 -- a table that is written to its end
 pub written : {X : Type 0} (xs table : List X) (n : ℕ) → length table ≤ n → xs ++ drop n table ≡ xs
 written xs table n h = rw drop_all (append-nil xs)
+
+-- tables that nothing was written to
+pub unwritten : {P : Type 0} (s p : List ℕ) (c : List P) → TablesStay s s p p c c
+unwritten s p c = record { starts_stay = refl; pins_stay = refl; prices_stay = refl }
 
 -- a table whose first entries are written
 pub extends : {X : Type 0} (xs new table : List X) (n : ℕ) → new ≡ xs → length xs ≡ n → Extends xs table (new ++ drop n table)

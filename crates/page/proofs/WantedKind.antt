@@ -1,13 +1,13 @@
 -- A page without a fault in the kind that it names, where some kind is wanted: only another kind is told.
 use Rattle.std.proofs.Common.{◌≡◌, ℕ, ◌*◌, ◌≤◌, not, eqb, List, length, Some, None, ◌∙◌, subst}
-use Rattle.std.proofs.lemmas.Bool.{ltb-false, eqb-true, not-false}
+use Rattle.std.proofs.lemmas.Bool.{ltb-false}
 use Rattle.std.specs.Bool.{then_some}
 use Rattle.refusal.specs.declared.Fault.{Fault}
 use Rattle.refusal.specs.declared.Fault.TheVariants.{PageEnds, OtherKind}
 use Rattle.refusal.proofs.CheckLaws.{option_or_none, or_some, or_none, then_some_none}
 use Rattle.page.specs.Layout.{kind_field}
 use Rattle.page.specs.Faults.{ends, header_fault, page_fault}
-use Rattle.page.proofs.PageLaws.{header_told}
+use Rattle.page.proofs.PageLaws.{same_kind, header_told}
 
 module _ (bytes : List ℕ) (fine : page_fault bytes (kind_field bytes) ≡ None) where
   kind_there : ends bytes 0 4 ≡ None
@@ -22,4 +22,4 @@ module _ (bytes : List ℕ) (fine : page_fault bytes (kind_field bytes) ≡ None
     other_told fault told = header_told bytes kind fault (or_none _ kind_there ∙ or_some _ told)
 
     pub same_fine : then_some (not (eqb (kind_field bytes) kind)) (OtherKind 0) ≡ None → page_fault bytes kind ≡ None
-    same_fine same = subst (λ (x : ℕ). page_fault bytes x ≡ None) (eqb-true (kind_field bytes) kind (not-false _ (then_some_none _ (OtherKind 0) same))) fine
+    same_fine same = subst (λ (x : ℕ). page_fault bytes x ≡ None) (same_kind bytes kind same) fine

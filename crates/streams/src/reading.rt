@@ -20,7 +20,7 @@ pub enum ReadError {
 }
 
 /// Reads the first bytes that a reader has left, so many or all that there are, and takes no more from it.
-/// The answer is an error only where the reader answered it, or for want of memory for so many bytes; then none is taken.
+/// An error of the reader is one that it answered, by what it says of its errors. Where want of memory for so many bytes is told, none is taken.
 pub fn read_first<R: Source>(
     heap: Global,
     reader: &mut R,

@@ -10,7 +10,7 @@ use std::io;
 use std::io::ErrorKind;
 
 /// Writes all bytes after what the writer has.
-/// The answer is an error only where the writer answered it; the writer has then taken a first part of the bytes, and not all.
+/// An error is one that the writer answered, by what it says of its errors; it has then taken a first part of the bytes, and not all.
 pub fn write_whole<W: Sink>(writer: &mut W, bytes: &[u8]) -> io::Result<()>
     ensures written { OnOk result (Appends (W.contents writer.old) (W.contents writer.new) bytes.now) }
     ensures part { OnErr result (PutsFirst (W.contents writer.old) (W.contents writer.new) bytes.now) }
