@@ -38,14 +38,20 @@ fn net_mask<N: Netlist>(netlist: &N, net: usize) -> ModuleSet
 }
 
 /// Of each net the groups of its pins, once groups `a` and `b` are one.
-pub fn united_masks(masks: [ModuleSet; NETS_MOST], a: u8, b: u8) -> [ModuleSet; NETS_MOST]
+pub fn united_masks(mut masks: [ModuleSet; NETS_MOST], a: u8, b: u8) -> [ModuleSet; NETS_MOST]
     ensures { (i : ℕ) → i < 1024 → UnitedSet a b (slice_index (map (λ mask. mask.word) masks) i) (slice_index (map (λ mask. mask.word) result) i) }
 {
-    masks.map(
-        move |mask|
-            ensures { UnitedSet a b mask.word result.word }
-        { united_mask(mask, a, b) },
-    )
+    unite_masks(&mut masks, a, b);
+    masks
+}
+
+/// The same in place, of as many nets as are lent: a netlist of few nets is united in little time.
+pub fn unite_masks(masks: &mut [ModuleSet], a: u8, b: u8)
+    ensures { (i : ℕ) → i < length masks.old → UnitedSet a b (slice_index (map (λ mask. mask.word) masks.old) i) (slice_index (map (λ mask. mask.word) masks.new) i) }
+{
+    for mask in masks.iter_mut() {
+        *mask = united_mask(*mask, a, b);
+    }
 }
 
 // The groups of a net's pins, once groups `a` and `b` are one.

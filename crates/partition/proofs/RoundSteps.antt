@@ -26,7 +26,7 @@ use Rattle.grouping.proofs.OwnNets.{modules_few}
 use Rattle.partition.specs.declared.groups.Groups.{Groups}
 use Rattle.partition.specs.declared.round.RoundEnd.{RoundEnd}
 use Rattle.partition.specs.Orders.{last_price}
-use Rattle.partition.specs.Rounds.{by_set, SameSplit, GroupRow, NetGroups, EachAlone, round_noted, round_row, RoundMade, FoundOver}
+use Rattle.partition.specs.Rounds.{by_set, SameSplit, GroupRow, EachAlone, round_noted, round_row, RoundMade, FoundOver}
 use Rattle.partition.proofs.Cells.{cleared_later}
 
 next_to_last_in : (before : List ℕ) (u v : ℕ) (rest : List ℕ) → (ending_after before u v rest).next_to_last ≡ get_or (u ∷ v ∷ rest) (length rest) 0
@@ -110,14 +110,13 @@ row_after k l nets m g left row next two few mm e r f =
           (united_below a b left (place row v) (omega (arith, d.next_there)) (omega (arith, d.last_there)) d.differ (omega (arith, r.below v h)));
     })
 
--- What a round over one group more leaves: the groups, their nets, and the cells past those of all modules.
+-- What a round over one group more leaves: the row once its last two are united, and the cells past those of all modules.
 pub round_leaves : {P : Type 0} (k : Kind P) → Laws k → (m : Meaning P) → Sound m → (count g : ℕ) (row : List ℕ) (cells cells' start : List P) (end : RoundEnd P)
     → count ≡ modules m → 1 < g → g ≤ count → count ≤ length cells → GroupRow (modules m) g row → drop count cells ≡ drop count start → RoundMade k m g row cells cells' end
-    → GroupRow (modules m) (g - 1) end.groups.row × NetGroups k m end.groups × (drop count cells' ≡ drop count start)
+    → GroupRow (modules m) (g - 1) (united end.next_to_last end.last row) × (drop count cells' ≡ drop count start)
 round_leaves k l m s count g row cells cells' start end all two inside room r later made =
     let few : modules m ≤ 64 = modules_few m s in (
-      row_after k l (own_nets k m) (modules m) g (g - 1) row end.groups.row two (omega arith) few (omega arith) r made.united,
-      made.nets,
+      row_after k l (own_nets k m) (modules m) g (g - 1) row (united end.next_to_last end.last row) two (omega arith) few (omega arith) r made.united,
       cleared_later k g count cells cells' inside (omega arith) made.zeroed ∙ later,
     )
 

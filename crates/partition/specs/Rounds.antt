@@ -50,11 +50,11 @@ round_noted k nets g row = parting k nets row (counted_ending k nets g row).last
 abbrev pub round_row : {P : Type 0} → Kind P → List (Net P) → ℕ → List ℕ → List ℕ
 round_row k nets g row = united (counted_ending k nets g row).next_to_last (counted_ending k nets g row).last row
 
--- A round over the g groups of a row: it notes the split that parts off the last of their order, unites the last two, and leaves a zero cell for each group.
+-- A round over the g groups of a row: it notes the split that parts off the last of their order, tells the last two, which the next round has as one, and leaves a
+-- zero cell for each group.
 pub record RoundMade {P : Type 0} (k : Kind P) (m : Meaning P) (g : ℕ) (row : List ℕ) (cells cells' : List P) (end : RoundEnd P) : Type 0 where
   pub noted : SameSplit (by_noted end.noted) (round_noted k (own_nets k m) g row)
-  pub united : end.groups.row ≡ round_row k (own_nets k m) g row
-  pub nets : NetGroups k m end.groups
+  pub united : united end.next_to_last end.last row ≡ round_row k (own_nets k m) g row
   pub zeroed : cells' ≡ cleared k g cells
 
 -- The answer is the group most pulled by those taken, the lowest on equal pulls, and is taken; where there is none, no group waits.

@@ -1,11 +1,10 @@
-//! The groups that a netlist's modules are in, passed on by value from round to round.
-ghost use Rattle.std.specs.Prelude.{◌≡◌, ℕ, ◌<◌, length, map, slice_index};
+//! The groups that a netlist's modules are in, united in place from round to round.
+ghost use Rattle.std.specs.Prelude.{◌≡◌, ℕ, ◌<◌, length};
 ghost use Rattle.netlist.specs.Places.{place as place_in};
 ghost use Rattle.netlist.specs.Changes.{united as united_in};
-ghost use Rattle.grouping.specs.Masks.{UnitedSet};
 ghost use Rattle.partition.specs.Rounds.{NetGroups};
 
-use grouping::masks::{gather, united_masks};
+use grouping::masks::{gather, unite_masks};
 use moduleset::ModuleSet;
 use netlist::Netlist;
 use netlist::limits::{MODULES_MOST, NETS_MOST};
@@ -33,14 +32,12 @@ impl Groups {
         }
     }
 
-    // The groups once `a` and `b` are one.
-    pub(crate) fn united(self, a: u8, b: u8) -> Groups
-        ensures row { result.row ≡ united_in a b self.row }
-        ensures nets { (i : ℕ) → i < 1024 → UnitedSet a b (slice_index (map (λ mask. mask.word) self.masks) i) (slice_index (map (λ mask. mask.word) result.masks) i) }
+    // Makes groups `a` and `b` one. Of the sets only the netlist's are gone through.
+    pub(crate) fn unite<N: Netlist>(&mut self, netlist: &N, a: u8, b: u8)
+        ensures row { self.new.row ≡ united_in a b self.old.row }
+        ensures nets { NetGroups N.Price.Price.kind (N.meaning netlist.now) self.old → NetGroups N.Price.Price.kind (N.meaning netlist.now) self.new }
     {
-        Groups {
-            row: united_row(self.row, a, b),
-            masks: united_masks(self.masks, a, b),
-        }
+        self.row = united_row(self.row, a, b);
+        unite_masks(&mut self.masks[..netlist.net_count()], a, b);
     }
 }

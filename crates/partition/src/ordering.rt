@@ -30,6 +30,7 @@ pub fn order<N: Netlist>(
     if count < 2 {
         return Err(Fault::TooFewGroups);
     }
-    let round = Round::new(netlist, Groups::singles(netlist), count as u8);
+    let groups = Groups::singles(netlist);
+    let round = Round::new(netlist, &groups, count as u8);
     Ok(round.order(&mut cells[..count], &mut bytes[..count]))
 }

@@ -24,11 +24,12 @@ pub(crate) struct Noted<P> {
     pub(crate) price: P,
 }
 
-// What a round notes, and the groups that it leaves.
+// What a round notes, and the last two groups of its order, to be united.
 #[derive(Clone, Copy)]
 pub(crate) struct RoundEnd<P> {
     pub(crate) noted: Noted<P>,
-    pub(crate) groups: Groups,
+    pub(crate) next_to_last: u8,
+    pub(crate) last: u8,
 }
 
 // A round over so many groups of a netlist's modules, two and more.
@@ -36,22 +37,23 @@ pub(crate) struct RoundEnd<P> {
 pub(crate) struct Round<'a, N: Netlist> {
     netlist: &'a N,
     count: u8,
-    groups: Groups,
+    groups: &'a Groups,
     ghost several: { 1 < count },
     ghost few: { count ≤ 64 },
-    ghost within: { (v : ℕ) → v < modules (N.meaning netlist.now) → place_in groups.row v < count },
-    ghost nets: { NetGroups N.Price.Price.kind (N.meaning netlist.now) groups },
+    ghost within: { (v : ℕ) → v < modules (N.meaning netlist.now) → place_in groups.now.row v < count },
+    ghost sets: { length (N.meaning netlist.now).nets ≤ length groups.now.masks },
+    ghost nets: { NetGroups N.Price.Price.kind (N.meaning netlist.now) groups.now },
 }
 
 impl<'a, N: Netlist> Round<'a, N> {
     // The round over so many groups.
-    pub(crate) fn new(netlist: &'a N, groups: Groups, count: u8) -> Round<'a, N>
+    pub(crate) fn new(netlist: &'a N, groups: &'a Groups, count: u8) -> Round<'a, N>
         requires several { 1 < count }
         requires few { count ≤ 64 }
-        requires row { GroupRow (modules (N.meaning netlist.now)) count groups.row }
-        requires nets { NetGroups N.Price.Price.kind (N.meaning netlist.now) groups }
+        requires row { GroupRow (modules (N.meaning netlist.now)) count groups.now.row }
+        requires nets { NetGroups N.Price.Price.kind (N.meaning netlist.now) groups.now }
         ensures netlist { result.netlist.now ≡ netlist.now }
-        ensures groups { result.groups ≡ groups }
+        ensures groups { result.groups.now ≡ groups.now }
         ensures count { result.count ≡ count }
     {
         Round {
@@ -61,10 +63,10 @@ impl<'a, N: Netlist> Round<'a, N> {
         }
     }
 
-    // Parts off the last of the order, and unites the last two.
+    // Parts off the last of the order.
     pub(crate) fn part_last(&self, cells: &mut [N::Price]) -> RoundEnd<N::Price>
         requires { self.now.count ≤ length cells.old }
-        ensures { RoundMade N.Price.Price.kind (N.meaning self.now.netlist.now) self.now.count self.now.groups.row cells.old cells.new result }
+        ensures { RoundMade N.Price.Price.kind (N.meaning self.now.netlist.now) self.now.count self.now.groups.now.row cells.old cells.new result }
     {
         let mut bytes = [0u8; MODULES_MOST];
         let order = &mut bytes[..self.count as usize];
@@ -76,7 +78,8 @@ impl<'a, N: Netlist> Round<'a, N> {
                 sides: group_set(self.groups.row, last),
                 price,
             },
-            groups: self.groups.united(next_to_last, last),
+            next_to_last,
+            last,
         }
     }
 
@@ -84,9 +87,9 @@ impl<'a, N: Netlist> Round<'a, N> {
     pub(crate) fn order(&self, cells: &mut [N::Price], bytes: &mut [u8]) -> N::Price
         requires room { length cells.old ≡ self.now.count }
         requires long { length bytes.old ≡ self.now.count }
-        ensures order { bytes.new ≡ order_in N.Price.Price.kind (grouped N.Price.Price.kind (N.meaning self.now.netlist.now) self.now.groups.row) self.now.count }
+        ensures order { bytes.new ≡ order_in N.Price.Price.kind (grouped N.Price.Price.kind (N.meaning self.now.netlist.now) self.now.groups.now.row) self.now.count }
         ensures cells { cells.new ≡ replicate self.now.count N.Price.Price.kind.zero }
-        ensures price { result ≡ last_price N.Price.Price.kind (grouped N.Price.Price.kind (N.meaning self.now.netlist.now) self.now.groups.row) bytes.new }
+        ensures price { result ≡ last_price N.Price.Price.kind (grouped N.Price.Price.kind (N.meaning self.now.netlist.now) self.now.groups.now.row) bytes.new }
     {
         let taken = ModuleSet::at_or_past(self.count as usize).with(0);
         let mut pulls = PullRow {
@@ -108,8 +111,8 @@ impl<'a, N: Netlist> Round<'a, N> {
 
     // Takes the group most pulled by those taken, the lowest on equal pulls. Its key is its pull.
     fn take_next(&self, pulls: &mut PullRow<'_, N::Price>) -> Option<u8>
-        ensures took { TakesMostPulled N.Price.Price.kind (N.meaning self.now.netlist.now) self.now.groups.row pulls.old.taken.word pulls.new.taken.word result }
-        ensures keys { KeysArePulls N.Price.Price.kind (grouped N.Price.Price.kind (N.meaning self.now.netlist.now) self.now.groups.row) pulls.old.taken.word pulls.new.cells.now }
+        ensures took { TakesMostPulled N.Price.Price.kind (N.meaning self.now.netlist.now) self.now.groups.now.row pulls.old.taken.word pulls.new.taken.word result }
+        ensures keys { KeysArePulls N.Price.Price.kind (grouped N.Price.Price.kind (N.meaning self.now.netlist.now) self.now.groups.now.row) pulls.old.taken.word pulls.new.cells.now }
         ensures long { length pulls.new.cells.now ≡ length pulls.old.cells.now }
     {
         self.set_keys(pulls);
@@ -118,7 +121,7 @@ impl<'a, N: Netlist> Round<'a, N> {
 
     // Makes the key of each group that waits its pull toward those taken: the prices of the nets that pull there, joined.
     fn set_keys(&self, pulls: &mut PullRow<'_, N::Price>)
-        ensures keys { KeysArePulls N.Price.Price.kind (grouped N.Price.Price.kind (N.meaning self.now.netlist.now) self.now.groups.row) pulls.old.taken.word pulls.new.cells.now }
+        ensures keys { KeysArePulls N.Price.Price.kind (grouped N.Price.Price.kind (N.meaning self.now.netlist.now) self.now.groups.now.row) pulls.old.taken.word pulls.new.cells.now }
         ensures long { length pulls.new.cells.now ≡ length pulls.old.cells.now }
         ensures taken { pulls.new.taken ≡ pulls.old.taken }
     {

@@ -21,13 +21,13 @@ pub(crate) fn split_modules<N: Netlist>(
     ensures found { FoundOver N.Price.Price.kind (own_nets N.Price.Price.kind (N.meaning netlist.now)) count (by_noted result) }
     ensures later { drop count cells.new ≡ drop count cells.old }
 {
-    let first = Round::new(netlist, Groups::singles(netlist), count).part_last(cells);
-    let mut best = first.noted;
-    let mut groups = first.groups;
+    let mut groups = Groups::singles(netlist);
+    let mut end = Round::new(netlist, &groups, count).part_last(cells);
+    let mut best = end.noted;
     for left in (2..count).rev() {
-        let next = Round::new(netlist, groups, left).part_last(cells);
-        best = best.or_cheaper(next.noted);
-        groups = next.groups;
+        groups.unite(netlist, end.next_to_last, end.last);
+        end = Round::new(netlist, &groups, left).part_last(cells);
+        best = best.or_cheaper(end.noted);
     }
     best
 }

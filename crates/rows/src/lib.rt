@@ -17,10 +17,13 @@ pub fn singles() -> [u8; MODULES_MOST]
 }
 
 /// The row with groups `a` and `b` united.
-pub fn united_row(row: [u8; MODULES_MOST], a: u8, b: u8) -> [u8; MODULES_MOST]
+pub fn united_row(mut row: [u8; MODULES_MOST], a: u8, b: u8) -> [u8; MODULES_MOST]
     ensures { result ≡ united_in a b row }
 {
-    row.map(move |group| united_place(a, b, group))
+    for group in row.iter_mut() {
+        *group = united_place(a, b, *group);
+    }
+    row
 }
 
 // The number of a group once groups `a` and `b` are one: that has the lower of the two numbers, and the numbers above the higher close up.

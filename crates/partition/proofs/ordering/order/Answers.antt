@@ -24,7 +24,7 @@ returns-clause-call g c =
     let m = g.N.Netlist.meaning c.args.netlist.now in
     let round = c.new-round.ensures in
     ordered k g.met.N.Price.Price.lawful m c.args.cells.now c.order.new.cells c.args.bytes.now c.order.new.bytes _ c.module_count-count.result c.new-round.result.count c.order.result
-    (ap₂ (λ n row. grouped k (g.N.Netlist.meaning n) row) round.netlist (ap (λ x. x.row) round.groups) ∙ grouped_own k m c.singles.result.row (g.N.Netlist.sound c.args.netlist.now) c.singles.ensures.own)
+    (ap₂ (λ n row. grouped k (g.N.Netlist.meaning n) row) round.netlist (ap (λ x. x.row) round.groups) ∙ grouped_own k m c.singles-groups.result.row (g.N.Netlist.sound c.args.netlist.now) c.singles-groups.ensures.own)
     c.module_count-count.ensures round.count (omega arith) (omega arith) (omega arith) c.order.ensures.order c.order.ensures.cells c.order.ensures.price
 
 pub returns-clause-last : goal.returns-clause-last

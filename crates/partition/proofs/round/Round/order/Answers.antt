@@ -15,7 +15,7 @@ loop-byte-init g c =
     let k = g.N.Price.Price.kind in
     let round = c.args.self.now in
     let m : ℕ = round.count in (
-      turn_start k g.met.N.Price.Price.lawful (grouped k (g.N.Netlist.meaning round.netlist.now) round.groups.row) m c.with-taken.result.word c.zero-price.result _
+      turn_start k g.met.N.Price.Price.lawful (grouped k (g.N.Netlist.meaning round.netlist.now) round.groups.now.row) m c.with-taken.result.word c.zero-price.result _
           (omega (arith, round.several)) (taken_start c.at_or_past.result.word c.with-taken.result.word m c.at_or_past.ensures c.with-taken.ensures),
       (let bytes = set c.args.bytes.now 0 0 in
           omega (arith, length-take-le (length bytes - 1) (drop 1 bytes) (omega (arith, length-drop 1 bytes)), length-drop 1 bytes, length-set c.args.bytes.now 0 0, c.requires.long, round.several)),
@@ -31,8 +31,8 @@ loop-byte-preserved g c =
     let items = c.loop-byte.byte-items in
     let inv = c.loop-byte.invariant in
     let t = c.in-Some.ensures.took in (
-      turn_next k g.met.N.Price.Price.lawful (grouped k m round.groups.row) round.count i c.loop-byte.pulls.taken.word c.loop-byte.price items
-          (grouped_there k m round.count round.groups.row (g.N.Netlist.sound round.netlist.now) round.within) (omega (arith, inv.1)) round.few inv.0 (omega arith)
+      turn_next k g.met.N.Price.Price.lawful (grouped k m round.groups.now.row) round.count i c.loop-byte.pulls.taken.word c.loop-byte.price items
+          (grouped_there k m round.count round.groups.now.row (g.N.Netlist.sound round.netlist.now) round.within) (omega (arith, inv.1)) round.few inv.0 (omega arith)
           c.in-Some.v c.take_next.new.pulls.taken.word c.key-price.result t.0 (c.key-price.ensures ∙ c.take_next.ensures.keys c.in-Some.v t.0.below t.0.waits) t.1,
       omega (arith, length-set items i c.in-Some.v, inv.1),
       c.take_next.ensures.long ∙ inv.2,
@@ -44,9 +44,9 @@ returns g c =
     let l = g.met.N.Price.Price.lawful in
     let round = c.args.self.now in
     let m : ℕ = round.count in
-    let nets = grouped k (g.N.Netlist.meaning round.netlist.now) round.groups.row in
+    let nets = grouped k (g.N.Netlist.meaning round.netlist.now) round.groups.now.row in
     let there : OnPins (AllByRecursion (λ pin. pin < m)) nets =
-    grouped_there k (g.N.Netlist.meaning round.netlist.now) m round.groups.row (g.N.Netlist.sound round.netlist.now) round.within in
+    grouped_there k (g.N.Netlist.meaning round.netlist.now) m round.groups.now.row (g.N.Netlist.sound round.netlist.now) round.within in
     let taken : ℕ = c.loop-byte.pulls.taken.word in
     let price = c.loop-byte.price in
     let bytes : List ℕ = 0 ∷ c.loop-byte.byte-items in

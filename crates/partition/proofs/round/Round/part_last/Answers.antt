@@ -1,6 +1,4 @@
-use Rattle.std.proofs.Common.{◌++◌, map, drop, ap, sym, subst}
-use Rattle.grouping.specs.Masks.{grouped, MasksOf}
-use Rattle.partition.proofs.NextGroups.{masks_united}
+use Rattle.std.proofs.Common.{◌++◌, drop, refl, ap}
 use Rattle.partition.proofs.RoundSteps.{noted_is, next_is}
 use Rattle.partition.proofs.round.Round.part_last.Goals as goal
 
@@ -12,9 +10,7 @@ returns g c =
     let m = g.N.Netlist.meaning round.netlist.now in
     let ordered = c.order-price.ensures in
     record {
-      noted = noted_is k l m round.groups.row c.order-price.new.bytes round.count round.several ordered.order c.group_set.result.word c.order-price.result ordered.price c.group_set.ensures;
-      united = next_is k l m round.groups.row c.order-price.new.bytes round.count round.several ordered.order c.united.result.row c.united.ensures.row;
-      nets = subst (λ row. MasksOf (map (λ mask. mask.word) c.united.result.masks) (grouped k m row)) (sym c.united.ensures.row)
-          (masks_united k m _ _ round.groups.row _ _ (g.N.Netlist.sound round.netlist.now).few_nets c.united.ensures.nets round.nets);
+      noted = noted_is k l m round.groups.now.row c.order-price.new.bytes round.count round.several ordered.order c.group_set.result.word c.order-price.result ordered.price c.group_set.ensures;
+      united = next_is k l m round.groups.now.row c.order-price.new.bytes round.count round.several ordered.order _ refl;
       zeroed = ap (λ xs. xs ++ drop round.count c.args.cells.now) ordered.cells;
     }
