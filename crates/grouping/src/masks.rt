@@ -45,7 +45,7 @@ pub fn united_masks(mut masks: [ModuleSet; NETS_MOST], a: u8, b: u8) -> [ModuleS
     masks
 }
 
-/// The same in place, of as many nets as are lent: a netlist of few nets is united in little time.
+/// The same in place, of as many nets as are lent: the sets past a netlist's last net need not be gone through.
 pub fn unite_masks(masks: &mut [ModuleSet], a: u8, b: u8)
     ensures { (i : ℕ) → i < length masks.old → UnitedSet a b (slice_index (map (λ mask. mask.word) masks.old) i) (slice_index (map (λ mask. mask.word) masks.new) i) }
 {

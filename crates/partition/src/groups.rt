@@ -11,8 +11,8 @@ use netlist::limits::{MODULES_MOST, NETS_MOST};
 use price::Price;
 use rows::{singles, united_row};
 
-// For each module its group, in a row of 64 bytes, and of each net the groups of its pins.
-#[derive(Clone, Copy)]
+// For each module its group, in a row of 64 bytes, and of each net the groups of its pins. Lent and not copied: the sets take 8 KiB.
+#[derive(Drop)]
 pub(crate) struct Groups {
     pub(crate) row: [u8; MODULES_MOST],
     // An array, of which as many count as the netlist has nets: a vector would keep that number a second time.
@@ -32,7 +32,7 @@ impl Groups {
         }
     }
 
-    // Makes groups `a` and `b` one. Of the sets only the netlist's are gone through.
+    // Makes groups `a` and `b` one. The sets past the netlist's last net stay, so that few nets take little time.
     pub(crate) fn unite<N: Netlist>(&mut self, netlist: &N, a: u8, b: u8)
         ensures row { self.new.row ≡ united_in a b self.old.row }
         ensures nets { NetGroups N.Price.Price.kind (N.meaning netlist.now) self.old → NetGroups N.Price.Price.kind (N.meaning netlist.now) self.new }
