@@ -1,22 +1,17 @@
-use Rattle.std.proofs.Common.{◌≡◌, subst, rules}
-use Rattle.std.specs.Str.Parse.{ParsesUnsigned}
-use Rattle.script.proofs.Digits.{no_text, no_numeral, numeral}
+use Rattle.std.proofs.Common.{◌≡◌, length, sym, ◌∙◌, ⊎_elim, eqb-true, rules, arith}
+use borrow.Author.Tests.{eqb-false}
+use Rattle.script.proofs.Digits.{not_read, too_long, no_digits, leading_zero, number_read}
 use Rattle.script.proofs.numbers.number.Goals as goal
-use Rattle.script.proofs.numbers.number.Goals.{then-plain, else-plain}
 
-pub returns-in_err-text : goal.returns-in_err-text
-returns-in_err-text c = rw c.from_residual.ensures (no_text _ _ c.args.bytes.now c.from_utf8.result c.from_utf8.ensures.cases (search rules))
+pub returns-then-is_empty : goal.returns-then-is_empty
+returns-then-is_empty c =
+    not_read _ (λ n. ⊎_elim (λ none. no_digits _ n (eqb-true _ 0 (sym c.is_empty.ensures ∙ none))) (λ long. too_long _ n long.1) c.then-is_empty.either)
 
-pub returns-in_err-number : goal.returns-in_err-number
-returns-in_err-number c =
-    let same : c.in_ok-text.text.now ≡ c.args.bytes.now = search rules in
-    rw c.from_residual-in_err-number.ensures (no_numeral c.args.bytes.now c.parse.result (subst (λ bs. ParsesUnsigned 64 10 bs c.parse.result) same c.parse.ensures.value.0) (search rules))
+pub returns-then-bytes-gt1 : goal.returns-then-bytes-gt1
+returns-then-bytes-gt1 c = not_read _ (λ n. leading_zero _ n c.if-bytes-gt1.true (search rules))
 
 pub returns : goal.returns
 returns c =
-    let same : c.in_ok-text.text.now ≡ c.args.bytes.now = search rules in
-    let parsed = subst (λ bs. ParsesUnsigned 64 10 bs c.parse.result) same c.parse.ensures.value.0 in
-    rw c.then_some.ensures (elim c.if-plain.branch [
-      | then-plain w ↦ numeral c.args.bytes.now c.parse.result c.in_ok-number.number parsed (search rules) c.if-plain.then_some (search rules) (search rules)
-      | else-plain w ↦ numeral c.args.bytes.now c.parse.result c.in_ok-number.number parsed (search rules) c.if-plain.then_some (search rules) (search rules)
-    ])
+    let some : length c.args.bytes.now ≡ 0 → ⊥ = eqb-false _ 0 (sym c.is_empty.ensures ∙ c.if-is_empty.false) in
+    number_read _ _ (omega arith) (omega (arith, some))
+    (λ led. ⊎_elim (λ short. omega (arith, short.1, some)) (λ other. absurd (other led)) c.else-bytes-eq48.either) c.digits_read.ensures
