@@ -1,14 +1,26 @@
 -- The lines that the program writes into a caller's buffer.
-use Rattle.std.specs.Prelude.{◌≡◌, ℕ, zero, suc, ◌+◌, ◌/◌, ◌%◌, ◌<◌, ◌≤◌, cond, List, [], ◌∷◌, ◌++◌, length, drop, Ok, Err, codes, decimal, Result, nat_lt}
+use Rattle.std.specs.Prelude.{◌≡◌, ℕ, zero, suc, ◌+◌, ◌/◌, ◌%◌, ◌<◌, ◌≤◌, cond, List, [], ◌∷◌, ◌++◌, length, take, drop, Ok, Err, codes, decimal, Result, nat_lt}
 use Rattle.refusal.specs.declared.Fault.{Fault}
 use Rattle.refusal.specs.declared.Fault.TheVariants.{TooShort}
 use Rattle.refusal.specs.Faults.{number, place, place_number}
 use Rattle.lines.specs.declared.writing.Line.{Line}
 use Rattle.lines.specs.declared.writing.Line.TheVariants.{Accepted, Found, Refused, PageRefused, ScriptTooLong}
 
+-- `after` is `before` with the bytes at position `at`, and `next` is the position after them.
+pub record Put (at : ℕ) (bytes before after : List ℕ) (next : ℕ) : Type 0 where
+  pub next_is : next ≡ at + length bytes
+  pub after_is : after ≡ take at before ++ bytes ++ drop next before
+
 -- every line ends with byte 0x0A
 abbrev pub newline : List ℕ
 newline = 10 ∷ []
+
+-- `after` is `before` with the line, but for its byte 0x0A, at the front, and `end` is that byte's position: there is room for it in any buffer for a line.
+pub record Unended (line before after : List ℕ) (end : ℕ) : Type 0 where
+  pub body : List ℕ
+  pub whole : body ++ newline ≡ line
+  pub put : Put 0 body before after end
+  pub room : end < 37
 
 -- 0 to 9, then a to f
 abbrev pub hex_digit : ℕ → ℕ

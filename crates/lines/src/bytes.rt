@@ -1,46 +1,45 @@
-//! The bytes of a line, put one after another.
-ghost use Rattle.std.specs.Prelude.{◌≡◌, ◌+◌, ◌≤◌, ◌++◌, length};
-ghost use Rattle.arrayvec.specs.ArrayVec.{array_vec_len};
-ghost use Rattle.lines.specs.Lines.{hex_digits};
+//! The bytes of a line, put one after another into a buffer.
+ghost use Rattle.std.specs.Prelude.{◌≡◌, ◌+◌, ◌≤◌, length, decimal};
+ghost use Rattle.lines.specs.Lines.{Put, hex_digits};
 
-use crate::LINE_ROOM;
-use arrayvec::ArrayVec;
-use itoa::{Buffer, Integer};
+use itoa::write_digits;
 
-// What a line has before its byte 0x0A.
-const BODY_ROOM: usize = LINE_ROOM - 1;
+// A word has this many hexadecimal digits.
+const HEX_DIGITS: usize = 16;
 
-// The bytes of a line.
-pub(crate) type LineBytes = ArrayVec<u8, LINE_ROOM>;
-
-// The bytes of a line before its byte 0x0A.
-pub(crate) type Body = ArrayVec<u8, BODY_ROOM>;
-
-// Puts the bytes of a text.
-pub(crate) fn put_text<const ROOM: usize>(line: &mut ArrayVec<u8, ROOM>, text: &[u8])
-    requires { array_vec_len line.old + length text.now ≤ ROOM }
-    ensures bytes { line.new.items ≡ line.old.items ++ text.now }
-    ensures len { array_vec_len line.new ≡ array_vec_len line.old + length text.now }
+// Puts the bytes of a text from a position on, and answers the next position.
+pub(crate) fn put_text(out: &mut [u8], at: usize, text: &[u8]) -> usize
+    requires { at + length text.now ≤ length out.old }
+    ensures { Put at text.now out.old out.new result }
 {
-    line.try_extend_from_slice(text).unwrap();
+    let next = at + text.len();
+    out[at..next].copy_from_slice(text);
+    next
 }
 
-// Puts a number's decimal digits.
-pub(crate) fn put_decimal<I: Integer>(line: &mut Body, number: I)
-    requires { array_vec_len line.old + I.MAX_STR_LEN ≤ 36 }
-    ensures bytes { line.new.items ≡ line.old.items ++ I.text number }
-    ensures len { array_vec_len line.new ≤ array_vec_len line.old + I.MAX_STR_LEN }
+// Puts a number's decimal digits from a position on, and answers the next position.
+pub(crate) fn put_decimal(out: &mut [u8], at: usize, number: usize) -> usize
+    requires { at + length (decimal number) ≤ length out.old }
+    ensures { Put at (decimal number) out.old out.new result }
 {
-    put_text(line, Buffer::new().format(number).as_bytes());
+    let next = at + digit_count(number);
+    write_digits(number as u64, out, next);
+    next
 }
 
-// Puts the 16 hexadecimal digits of a word.
-pub(crate) fn put_hex(line: &mut Body, word: u64)
-    requires { array_vec_len line.old + 16 ≤ 36 }
-    ensures bytes { line.new.items ≡ line.old.items ++ hex_digits 16 word }
-    ensures len { array_vec_len line.new ≡ array_vec_len line.old + 16 }
+// How many decimal digits a number has.
+fn digit_count(number: usize) -> usize
+    ensures { result ≡ length (decimal number) }
 {
-    let mut digits = [0u8; 16];
-    hex::encode_to_slice(word.to_be_bytes(), &mut digits).unwrap();
-    put_text(line, &digits);
+    number.checked_ilog10().map_or(1, |log| log as usize + 1)
+}
+
+// Puts the 16 hexadecimal digits of a word from a position on, and answers the next position.
+pub(crate) fn put_hex(out: &mut [u8], at: usize, word: u64) -> usize
+    requires { at + 16 ≤ length out.old }
+    ensures { Put at (hex_digits 16 word) out.old out.new result }
+{
+    let next = at + HEX_DIGITS;
+    hex::encode_to_slice(word.to_be_bytes(), &mut out[at..next]).unwrap();
+    next
 }

@@ -1,9 +1,9 @@
 //! All the lines of the program's output, and one call that writes any of them.
-ghost use Rattle.std.specs.Prelude.{◌≡◌, ◌≤◌, ◌++◌, length};
-ghost use Rattle.lines.specs.Lines.{Written, line_bytes, newline, found_line, page_line, refused_line};
+ghost use Rattle.std.specs.Prelude.{◌≡◌, ◌≤◌, length};
+ghost use Rattle.lines.specs.Lines.{Unended, Written, line_bytes, found_line, page_line, refused_line};
 
 use crate::LINE_ROOM;
-use crate::bytes::{Body, LineBytes, put_decimal, put_hex, put_text};
+use crate::bytes::{put_decimal, put_hex, put_text};
 use refusal::Fault;
 
 /// A line of the program's output.
@@ -33,27 +33,18 @@ impl From<Fault> for Line {
 }
 
 impl Line {
-    // The bytes of the line, byte 0x0A at its end.
-    // Not by `Display` and `write!` into a string of fixed capacity: that this never fails could not be shown.
-    fn bytes(self) -> LineBytes
-        ensures { result.items ≡ line_bytes self }
-    {
-        let mut line = LineBytes::new();
-        put_text(&mut line, self.body().as_slice());
-        put_text(&mut line, b"\n");
-        line
-    }
-
-    // The bytes of the line before its byte 0x0A.
-    fn body(self) -> Body
-        ensures { result.items ++ newline ≡ line_bytes self }
+    // Puts the line, but for its byte 0x0A, at the front of a buffer, and answers the position of that byte.
+    // Not by `Display` and `write!`: that this never fails could not be shown.
+    fn put_body(self, out: &mut [u8]) -> usize
+        requires { 37 ≤ length out.old }
+        ensures { Unended (line_bytes self) out.old out.new result }
     {
         match self {
-            Line::Accepted => text(b"ok"),
-            Line::Found { sides, word } => found(sides, word),
-            Line::Refused { fault } => refused(fault),
-            Line::PageRefused { fault } => page_refused(fault),
-            Line::ScriptTooLong => text(b"script no 10"),
+            Line::Accepted => put_text(out, 0, b"ok"),
+            Line::Found { sides, word } => put_found(out, sides, word),
+            Line::Refused { fault } => put_refused(out, fault),
+            Line::PageRefused { fault } => put_page_refused(out, fault),
+            Line::ScriptTooLong => put_text(out, 0, b"script no 10"),
         }
     }
 }
@@ -66,54 +57,46 @@ pub fn write_line(line: Line, out: &mut [u8]) -> Result<usize, Fault>
     if out.len() < LINE_ROOM {
         return Err(Fault::TooShort { table: 1 });
     }
-    let bytes = line.bytes();
-    let count = bytes.len();
-    out[..count].copy_from_slice(bytes.as_slice());
-    Ok(count)
+    let end = line.put_body(out);
+    Ok(put_text(out, end, b"\n"))
 }
 
-// A text alone.
-fn text(text: &[u8]) -> Body
-    requires { length text.now ≤ 36 }
-    ensures { result.items ≡ text.now }
+// Puts a split that was found.
+// Not inlined, and a refused page neither: the short lines, which most are, would save registers for them.
+#[inline(never)]
+#[tactic(auto, using(crate::proofs::Puts::length_hex))]
+fn put_found(out: &mut [u8], sides: u64, word: u64) -> usize
+    requires { 37 ≤ length out.old }
+    ensures { Unended (found_line sides word) out.old out.new result }
 {
-    let mut line = Body::new();
-    put_text(&mut line, text);
-    line
+    let mut at = put_text(out, 0, b"ok ");
+    at = put_hex(out, at, sides);
+    at = put_text(out, at, b" ");
+    put_hex(out, at, word)
 }
 
-// A split that was found.
-fn found(sides: u64, word: u64) -> Body
-    ensures { result.items ++ newline ≡ found_line sides word }
+// Puts the line of a refused call.
+#[tactic(auto, using(crate::proofs::Puts::three_digits))]
+fn put_refused(out: &mut [u8], fault: Fault) -> usize
+    requires { 37 ≤ length out.old }
+    ensures { Unended (refused_line fault) out.old out.new result }
 {
-    let mut line = Body::new();
-    put_text(&mut line, b"ok ");
-    put_hex(&mut line, sides);
-    put_text(&mut line, b" ");
-    put_hex(&mut line, word);
-    line
+    let number = usize::from(fault.number());
+    let at = put_text(out, 0, b"no ");
+    put_decimal(out, at, number)
 }
 
-// The line of a refused call, without its byte 0x0A.
-fn refused(fault: Fault) -> Body
-    ensures { result.items ++ newline ≡ refused_line fault }
+// Puts the line of a refused page.
+#[inline(never)]
+#[tactic(auto, using(crate::proofs::Puts::three_digits, crate::proofs::Puts::twenty_digits))]
+fn put_page_refused(out: &mut [u8], fault: Fault) -> usize
+    requires { 37 ≤ length out.old }
+    ensures { Unended (page_line fault) out.old out.new result }
 {
-    let mut line = Body::new();
-    put_text(&mut line, b"no ");
-    put_decimal(&mut line, fault.number());
-    line
-}
-
-// The line of a refused page, without its byte 0x0A.
-fn page_refused(fault: Fault) -> Body
-    ensures { result.items ++ newline ≡ page_line fault }
-{
-    let number = fault.number();
+    let number = usize::from(fault.number());
     let bit = fault.place().number();
-    let mut line = Body::new();
-    put_text(&mut line, b"page no ");
-    put_decimal(&mut line, number);
-    put_text(&mut line, b" at ");
-    put_decimal(&mut line, bit);
-    line
+    let mut at = put_text(out, 0, b"page no ");
+    at = put_decimal(out, at, number);
+    at = put_text(out, at, b" at ");
+    put_decimal(out, at, bit)
 }
