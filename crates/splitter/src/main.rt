@@ -2,19 +2,22 @@
 #![tactic(auto)]
 
 use printing::readers::{PrintError, print_to};
+use printing::reading::read_most;
 use std::fs::File;
 use std::io;
+use streams::reading::{ReadError, read_first};
 use streams::sinks::AnyWriter;
 use streams::sources::AnyReader;
 
 fn main(rt: HostRuntime) -> anyhow::Result<()> {
-    let page = match File::open(&rt, "bench.page") {
+    let page = match read_page(&rt) {
         Ok(page) => page,
-        Err(error) => return unread(&rt, "bench.page", error),
+        Err(ReadError::Reader(error)) => return unread(&rt, "bench.page", error),
+        Err(ReadError::Memory(error)) => return Err(error.into()),
     };
     let printed = print_to(
         rt.alloc(),
-        &mut AnyReader(page),
+        &mut page.as_slice(),
         &mut AnyReader(rt.stdin()),
         &mut AnyWriter(rt.stdout()),
     );
@@ -25,6 +28,13 @@ fn main(rt: HostRuntime) -> anyhow::Result<()> {
         Err(PrintError::Memory(error)) => Err(error.into()),
         Err(PrintError::Output(error)) => Err(error.into()),
     }
+}
+
+// The first bytes of the page, as many as count. Its file is closed before standard input is read:
+// where the program is started without one, the file is open under standard input's number.
+fn read_page(rt: &HostRuntime) -> Result<Vec<u8>, ReadError> {
+    let file = File::open(rt, "bench.page").map_err(ReadError::Reader)?;
+    read_first(rt.alloc(), &mut AnyReader(file), read_most().page)
 }
 
 // Says on standard error what could not be read, and fails.
