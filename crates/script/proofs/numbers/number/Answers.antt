@@ -5,7 +5,7 @@ use Rattle.script.proofs.numbers.number.Goals as goal
 
 pub returns-then-is_empty : goal.returns-then-is_empty
 returns-then-is_empty c =
-    not_read _ (λ n. ⊎_elim (λ none. no_digits _ n (eqb-true _ 0 (sym c.is_empty.ensures ∙ none))) (λ long. too_long _ n long.1) c.then-is_empty.either)
+    not_read _ (λ n. ⊎_elim (λ none. no_digits _ n (eqb-true _ 0 (sym c.is_empty.ensures ∙ none))) (λ long. too_long _ n (omega (arith, long.1))) c.then-is_empty.either)
 
 pub returns-then-bytes-gt1 : goal.returns-then-bytes-gt1
 returns-then-bytes-gt1 c = not_read _ (λ n. leading_zero _ n c.if-bytes-gt1.true (search rules))
