@@ -1,6 +1,6 @@
 //! A page and a script answered.
-ghost use Rattle.std.specs.Prelude.{◌≡◌, length, None, nat_lt};
-ghost use Rattle.page.specs.Faults.{page_fault};
+ghost use Rattle.std.specs.Prelude.{◌≡◌, ◌≤◌, length, None, nat_lt};
+ghost use Rattle.page.specs.Faults.{page_fault, unpack_fault};
 ghost use Rattle.printing.specs.PageRuns.{AnswerPage, ScriptOn, script_room};
 
 use crate::limits::SCRIPT_MOST;
@@ -56,6 +56,24 @@ pub(crate) fn answer_checked<P: Price>(
     if out.len() < room_for(script) {
         return Err(Fault::TooShort { table: 1 });
     }
+    answer_fitting(page, script, starts, pins, prices, cells, out)
+}
+
+// The same where the tables and the buffer are known to suffice.
+pub(crate) fn answer_fitting<P: Price>(
+    page: &CheckedPage<'_>,
+    script: &[u8],
+    starts: &mut [u32],
+    pins: &mut [u8],
+    prices: &mut [P],
+    cells: &mut [P],
+    out: &mut [u8],
+) -> Result<usize, Fault>
+    requires fine { unpack_fault page.now.bytes.now P.kind.number (length starts.old) (length pins.old) (length prices.old) ≡ None }
+    requires room { script_room script.now ≤ length out.old }
+    ensures { AnswerPage P.kind page.now.bytes.now script.now starts.old starts.new pins.old pins.new prices.old prices.new
+        cells.old cells.new out.old out.new result }
+{
     page.fill(starts, pins, prices)?;
     answer_script(page.counts, starts, pins, prices, script, cells, out)
 }

@@ -5,7 +5,7 @@ ghost use Rattle.lines.specs.Lines.{line_bytes};
 ghost use Rattle.printing.specs.PageRuns.{script_room};
 ghost use Rattle.printing.specs.Printed.{PrintedIn};
 
-use crate::answering::{answer_checked, room_for};
+use crate::answering::{answer_fitting, room_for};
 use crate::tables::Tables;
 use lines::LINE_ROOM;
 use lines::writing::{Line, write_line};
@@ -63,7 +63,7 @@ impl<P: Price> Tables<P> {
             mut prices,
             mut cells,
         } = self;
-        answer_checked(
+        answer_fitting(
             page,
             script,
             starts.as_mut_slice(),
