@@ -81,15 +81,23 @@ own_same page n enough =
       | inr short ↦ ap own_fault (take_all n page (omega arith))
     ]
 
+-- What is printed of a page's first bytes is what is printed of the whole page.
+pub page_decides : (page script bytes : List ℕ) (n : ℕ) → 54148 ≤ n → Printed (take n page) script bytes → Printed page script bytes
+page_decides page script bytes n enough given =
+    elim (cases_lt n (length page)) [
+      | inl longer ↦ long_page page n enough longer script script bytes given
+      | inr whole ↦ subst (λ (xs : List ℕ). Printed xs script bytes) (take_all n page (omega arith)) given
+    ]
+
+-- the same of a script's
+pub script_decides : (page script bytes : List ℕ) (n : ℕ) → 65537 ≤ n → Printed page (take n script) bytes → Printed page script bytes
+script_decides page script bytes n enough given =
+    elim (cases_lt n (length script)) [
+      | inl longer ↦ long_script page script n enough longer bytes given
+      | inr whole ↦ subst (λ (xs : List ℕ). Printed page xs bytes) (take_all n script (omega arith)) given
+    ]
+
 pub first_bytes_decide : (of_page of_script : ℕ) → 54148 ≤ of_page → 65537 ≤ of_script → FirstBytesDecide of_page of_script
 unfolding FirstBytesDecide
 first_bytes_decide of_page of_script enough_page enough_script page script bytes given =
-    elim (cases_lt of_page (length page)) [
-      | inl longer ↦ long_page page of_page enough_page longer script (take of_script script) bytes given
-      | inr short ↦
-          let of_all : Printed page (take of_script script) bytes = subst (λ (xs : List ℕ). Printed xs (take of_script script) bytes) (take_all of_page page (omega arith)) given in
-          elim (cases_lt of_script (length script)) [
-            | inl longer ↦ long_script page script of_script enough_script longer bytes of_all
-            | inr whole ↦ subst (λ (xs : List ℕ). Printed page xs bytes) (take_all of_script script (omega arith)) of_all
-          ]
-    ]
+    script_decides page script bytes of_script enough_script (page_decides page (take of_script script) bytes of_page enough_page given)

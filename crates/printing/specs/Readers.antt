@@ -11,23 +11,35 @@ use Rattle.printing.specs.declared.readers.PrintError.{PrintError}
 use Rattle.printing.specs.declared.readers.PrintError.TheVariants.{Page, Script, Memory, Output}
 use Rattle.printing.specs.Printed.{Printed}
 
--- Of the first 54,148 bytes that the page's reader gives: where they are refused, of these alone; where they are accepted, with the first 65,537 that the script's reader gives.
--- So of all bytes that the two had left, where these are known; of a refused page whatever the script's reader has.
+-- Of a page's bytes: where they are refused, of these alone; where they are accepted, with the first 65,537 that the script's reader gives.
+-- So with all bytes that this had left, where they are known; of a refused page whatever it has.
+pub record PrintedWith (page : List ℕ) (script script' : Option (List ℕ)) (bytes : List ℕ) : Type 0 where
+  pub alone : (fault : Fault) → own_fault page ≡ Some fault → bytes ≡ page_line fault
+  pub with_script : own_fault page ≡ None → (of_script : List ℕ) × TakesFirst 65537 script script' of_script × Printed page of_script bytes
+  pub whole : IfSome script (λ of_script. Printed page of_script bytes)
+
+-- The same of the first 54,148 bytes that the page's reader gives. So of all bytes that it had left, where these are known.
 pub record PrintedOf (page page' script script' : Option (List ℕ)) (bytes : List ℕ) : Type 0 where
   pub read : List ℕ
   pub page_read : TakesFirst 54148 page page' read
-  pub alone : (fault : Fault) → own_fault read ≡ Some fault → bytes ≡ page_line fault
-  pub with_script : own_fault read ≡ None → (of_script : List ℕ) × TakesFirst 65537 script script' of_script × Printed read of_script bytes
+  pub of_read : PrintedWith read script script' bytes
   pub whole_alone : IfSome page (λ of_page. (fault : Fault) → own_fault of_page ≡ Some fault → bytes ≡ page_line fault)
   pub whole : IfSome page (λ of_page. IfSome script (λ of_script. Printed of_page of_script bytes))
 
--- After what the writer had it has what is printed.
-abbrev pub WrittenOf : Option (List ℕ) → Option (List ℕ) → Option (List ℕ) → Option (List ℕ) → Option (List ℕ) → Option (List ℕ) → Type 0
-WrittenOf page page' script script' had has = (bytes : List ℕ) × PrintedOf page page' script script' bytes × Appends had has bytes
+-- After what the writer had it has such bytes.
+abbrev pub Wrote : (List ℕ → Type 0) → Option (List ℕ) → Option (List ℕ) → Type 0
+Wrote Such had has = (bytes : List ℕ) × Such bytes × Appends had has bytes
 
--- After what the writer had it has a first part of what is printed, and not all of it.
+-- After what the writer had it has a first part of such bytes, and not all of them.
+abbrev pub WrotePart : (List ℕ → Type 0) → Option (List ℕ) → Option (List ℕ) → Type 0
+WrotePart Such had has = (bytes : List ℕ) × Such bytes × PutsFirst had has bytes
+
+-- the same of what is printed
+abbrev pub WrittenOf : Option (List ℕ) → Option (List ℕ) → Option (List ℕ) → Option (List ℕ) → Option (List ℕ) → Option (List ℕ) → Type 0
+WrittenOf page page' script script' = Wrote (PrintedOf page page' script script')
+
 abbrev pub PartWrittenOf : Option (List ℕ) → Option (List ℕ) → Option (List ℕ) → Option (List ℕ) → Option (List ℕ) → Option (List ℕ) → Type 0
-PartWrittenOf page page' script script' had has = (bytes : List ℕ) × PrintedOf page page' script script' bytes × PutsFirst had has bytes
+PartWrittenOf page page' script script' = WrotePart (PrintedOf page page' script script')
 
 -- The page that a reader had left is accepted.
 abbrev pub Accepted : Option (List ℕ) → Type 0
@@ -40,6 +52,21 @@ RefusedAlone left script script' = IfSome left (λ page. own_fault page ≢ None
 -- A reader gave its first bytes, so many or all.
 abbrev pub Gave : {R : Type 0} → ℕ → (R → Option (List ℕ)) → R → R → Type 0
 Gave most left reader reader' = (bytes : List ℕ) × TakesFirst most (left reader) (left reader') bytes
+
+-- The page's error is told, which its reader answered, or want of memory, and then nothing was read.
+abbrev pub PageErrorOf : {R : Type 0} → (R → R → Error → Type 0) → R → R → PrintError → Type 0
+PageErrorOf fails page page' (Page error) = Answered fails page' error
+PageErrorOf fails page page' (Script _) = ⊥
+PageErrorOf fails page page' (Memory _) = page' ≡ page
+PageErrorOf fails page page' (Output _) = ⊥
+
+-- Whose error is told where the page's bytes are there: the script's, which its reader answered, and the page is accepted;
+-- or memory ran out: before anything of the script was read, or once an accepted page's script was.
+abbrev pub ReaderErrorOf : {S : Type 0} → (S → S → Error → Type 0) → (S → Option (List ℕ)) → List ℕ → S → S → PrintError → Type 0
+ReaderErrorOf fails left page script script' (Page _) = ⊥
+ReaderErrorOf fails left page script script' (Script error) = Answered fails script' error × (own_fault page ≡ None)
+ReaderErrorOf fails left page script script' (Memory _) = (script' ≡ script) ⊎ ((own_fault page ≡ None) × Gave 65537 left script script')
+ReaderErrorOf fails left page script script' (Output _) = Unit {0}
 
 -- Whose error is told: the page's, which its reader answered, and the script is not touched; the script's, which its reader answered, and the page is accepted;
 -- or memory ran out: before anything was read, or once the page was, or once an accepted page and the script were.

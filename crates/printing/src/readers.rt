@@ -1,8 +1,9 @@
 //! What is printed of a page and a script that come from readers.
-ghost use Rattle.std.specs.Prelude.{IfOk, IfErr, OnOk};
-ghost use Rattle.streams.specs.Streams.{TakesAtMost};
+ghost use Rattle.std.specs.Prelude.{◌≡◌, ◌≢◌, None, IfOk, IfErr, OnOk};
+ghost use Rattle.page.specs.Known.{own_fault};
+ghost use Rattle.streams.specs.Streams.{TakesAtMost, TakesFirst};
 ghost use Rattle.streams.specs.Errors.{Answered};
-ghost use Rattle.printing.specs.Readers.{PrintedOf, WrittenOf, PartWrittenOf, RefusedAlone, ReadersErrorOf, StaysUnlessOutput, OnOutput};
+ghost use Rattle.printing.specs.Readers.{PrintedWith, PrintedOf, Wrote, WrotePart, WrittenOf, PartWrittenOf, RefusedAlone, PageErrorOf, ReaderErrorOf, ReadersErrorOf, StaysUnlessOutput, OnOutput};
 
 use crate::kinds::print_known;
 use crate::printing::print_line;
@@ -31,6 +32,7 @@ pub enum PrintError {
 
 /// Reads a page and, where it is accepted, a script, as far as they count, and writes what is printed of them.
 /// An error is told of the reader or the writer that answered it, or of memory where neither reader failed. The writer has then what it had, or where it failed, a first part of what is printed too.
+#[tactic(auto, using(crate::proofs::ReadPart::written_of, crate::proofs::ReadPart::part_of, crate::proofs::ReadPart::refused_alone_of, crate::proofs::ReadPart::reader_error_of))]
 pub fn print_to<R: Source, S: Source, W: Sink>(
     heap: Global,
     page: &mut R,
@@ -46,13 +48,13 @@ pub fn print_to<R: Source, S: Source, W: Sink>(
     ensures writer_error { IfErr result (OnOutput (Answered W.fails out.new)) }
     ensures part { IfErr result (OnOutput (λ _. PartWrittenOf (R.remaining page.old) (R.remaining page.new) (S.remaining script.old) (S.remaining script.new) (W.contents out.old) (W.contents out.new))) }
 {
-    let bytes = print_from(heap, page, script)?;
-    write_whole(out, bytes.as_slice()).map_err(PrintError::Output)
+    let page = read_page(heap, page)?;
+    print_read_to(heap, page.as_slice(), script, out)
 }
 
 /// Reads a page and, where it is accepted, a script, as far as they count, and answers what is printed of them.
 /// An error is told of the reader that answered it, or of memory where neither failed.
-#[tactic(auto, using(crate::proofs::ReadPart::accepted_whole, crate::proofs::ReadPart::not_refused))]
+#[tactic(auto, using(crate::proofs::ReadPart::printed_of, crate::proofs::ReadPart::refused_alone_of, crate::proofs::ReadPart::reader_error_of))]
 pub fn print_from<R: Source, S: Source>(
     heap: Global,
     page: &mut R,
@@ -65,13 +67,41 @@ pub fn print_from<R: Source, S: Source>(
     ensures error { IfErr result (ReadersErrorOf R.fails S.fails R.remaining S.remaining page.old page.new script.old script.new) }
     ensures no_output { IfErr result (OnOutput (λ _. ⊥)) }
 {
-    let most = read_most();
-    let page = read_first(heap, page, most.page).map_err(|error| match error {
-        ReadError::Memory(error) => PrintError::Memory(error),
-        ReadError::Reader(error) => PrintError::Page(error),
-    })?;
-    match check_known(page.as_slice()) {
+    let page = read_page(heap, page)?;
+    print_read(heap, page.as_slice(), script)
+}
+
+/// Writes what is printed of a page's bytes and, where these are accepted, of a script, which is read as far as it counts.
+/// An error is told of the script's reader or of the writer, where that answered it, or of memory where the reader did not fail. The writer has then what it had, or where it failed, a first part of what is printed too.
+pub fn print_read_to<S: Source, W: Sink>(
+    heap: Global,
+    page: &[u8],
+    script: &mut S,
+    out: &mut W,
+) -> Result<(), PrintError>
+    ensures written { OnOk result (Wrote (PrintedWith page.now (S.remaining script.old) (S.remaining script.new)) (W.contents out.old) (W.contents out.new)) }
+    ensures script_taken { TakesAtMost 65537 (S.remaining script.old) (S.remaining script.new) }
+    ensures refused_alone { own_fault page.now ≢ None → script.new ≡ script.old }
+    ensures reader_error { IfErr result (ReaderErrorOf S.fails S.remaining page.now script.old script.new) }
+    ensures stays { IfErr result (StaysUnlessOutput out.old out.new) }
+    ensures writer_error { IfErr result (OnOutput (Answered W.fails out.new)) }
+    ensures part { IfErr result (OnOutput (λ _. WrotePart (PrintedWith page.now (S.remaining script.old) (S.remaining script.new)) (W.contents out.old) (W.contents out.new))) }
+{
+    let bytes = print_read(heap, page, script)?;
+    write_whole(out, bytes.as_slice()).map_err(PrintError::Output)
+}
+
+// The same, answered and not written.
+fn print_read<S: Source>(heap: Global, page: &[u8], script: &mut S) -> Result<Vec<u8>, PrintError>
+    ensures printed { IfOk result (λ printed. PrintedWith page.now (S.remaining script.old) (S.remaining script.new) printed.items) }
+    ensures script_taken { TakesAtMost 65537 (S.remaining script.old) (S.remaining script.new) }
+    ensures refused_alone { own_fault page.now ≢ None → script.new ≡ script.old }
+    ensures error { IfErr result (ReaderErrorOf S.fails S.remaining page.now script.old script.new) }
+    ensures no_output { IfErr result (OnOutput (λ _. ⊥)) }
+{
+    match check_known(page) {
         Ok(known) => {
+            let most = read_most();
             let script = read_first(heap, script, most.script).map_err(|error| match error {
                 ReadError::Memory(error) => PrintError::Memory(error),
                 ReadError::Reader(error) => PrintError::Script(error),
@@ -80,4 +110,17 @@ pub fn print_from<R: Source, S: Source>(
         }
         Err(fault) => { print_line(heap, Line::PageRefused { fault }).map_err(PrintError::Memory) }
     }
+}
+
+// The first bytes of a page, as many as count.
+fn read_page<R: Source>(heap: Global, page: &mut R) -> Result<Vec<u8>, PrintError>
+    ensures read { IfOk result (λ bytes. TakesFirst 54148 (R.remaining page.old) (R.remaining page.new) bytes.items) }
+    ensures few { TakesAtMost 54148 (R.remaining page.old) (R.remaining page.new) }
+    ensures error { IfErr result (PageErrorOf R.fails page.old page.new) }
+{
+    let most = read_most();
+    read_first(heap, page, most.page).map_err(|error| match error {
+        ReadError::Memory(error) => PrintError::Memory(error),
+        ReadError::Reader(error) => PrintError::Page(error),
+    })
 }

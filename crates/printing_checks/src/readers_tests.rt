@@ -2,7 +2,7 @@
 use crate::comparing::equal;
 use crate::fitful::{Broken, Fitful};
 use fixtures::small_page::SMALL;
-use printing::readers::{PrintError, print_from, print_to};
+use printing::readers::{PrintError, print_from, print_read_to, print_to};
 use std::io::ErrorKind;
 use std::test::Fail;
 use streams::sinks::AnyWriter;
@@ -49,6 +49,27 @@ fn read_and_written_byte_by_byte(rt: HostRuntime) -> Result<(), Fail> {
     Ok(())
 }
 
+// More bytes than a part has that is read at once: empty lines, and a split at the end.
+#[test]
+fn a_script_in_several_parts(rt: HostRuntime) -> Result<(), Fail> {
+    let mut script = vec![in rt.alloc(); b'\n'; 9000]?;
+    script.push(b'p')?;
+    let mut expected = Vec::new(rt.alloc());
+    for _ in 0..9000 {
+        expected.extend_from_slice(b"no 18\n")?;
+    }
+    expected.extend_from_slice(LINE)?;
+    let mut fitful = AnyReader(Fitful {
+        inner: script.as_slice(),
+        interrupted: false,
+    });
+    let mut out = Vec::new(rt.alloc());
+    let done = print_read_to(rt.alloc(), &SMALL, &mut fitful, &mut out);
+    equal(&rt, told(done), None);
+    equal(&rt, out.as_slice(), expected.as_slice());
+    Ok(())
+}
+
 // Whose error was told, and of which kind.
 fn told(answer: Result<(), PrintError>) -> Option<(&'static str, ErrorKind)> {
     match answer.err()? {
@@ -91,5 +112,28 @@ fn a_refused_page_beside_a_script_that_fails(rt: HostRuntime) -> Result<(), Fail
     );
     equal(&rt, told(done), None);
     equal(&rt, out.as_slice(), b"page no 9 at 127\n".as_slice());
+    Ok(())
+}
+
+#[test]
+fn a_page_that_was_read(rt: HostRuntime) -> Result<(), Fail> {
+    let mut out = Vec::new(rt.alloc());
+    let done = print_read_to(rt.alloc(), &SMALL, &mut b"p".as_slice(), &mut out);
+    equal(&rt, told(done), None);
+    equal(&rt, out.as_slice(), LINE);
+    let mut broken = AnyReader(Broken {});
+    let refused = print_read_to(rt.alloc(), &SMALL[..15], &mut broken, &mut out);
+    equal(&rt, told(refused), None);
+    let script = print_read_to(rt.alloc(), &SMALL, &mut broken, &mut out);
+    equal(&rt, told(script), Some(("script", ErrorKind::BrokenPipe)));
+    let output = print_read_to(
+        rt.alloc(),
+        &SMALL,
+        &mut b"p".as_slice(),
+        &mut AnyWriter(Broken {}),
+    );
+    equal(&rt, told(output), Some(("output", ErrorKind::BrokenPipe)));
+    let all = b"ok 2000000000000000 0000000000000003\npage no 1 at 92\n";
+    equal(&rt, out.as_slice(), all.as_slice());
     Ok(())
 }

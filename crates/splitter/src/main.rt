@@ -1,7 +1,7 @@
 //! The program: reads a page from the file bench.page and a script from standard input, and prints what the script's lines are told.
 #![tactic(auto)]
 
-use printing::readers::{PrintError, print_to};
+use printing::readers::{PrintError, print_read_to};
 use printing::reading::read_most;
 use std::fs::File;
 use std::io;
@@ -10,17 +10,16 @@ use streams::sinks::AnyWriter;
 use streams::sources::AnyReader;
 
 fn main(rt: HostRuntime) -> anyhow::Result<()> {
-    let page = match read_page(&rt) {
-        Ok(page) => page,
-        Err(ReadError::Reader(error)) => return unread(&rt, "bench.page", error),
-        Err(ReadError::Memory(error)) => return Err(error.into()),
+    let printed = match read_page(&rt) {
+        Ok(page) => print_read_to(
+            rt.alloc(),
+            page.as_slice(),
+            &mut AnyReader(rt.stdin()),
+            &mut AnyWriter(rt.stdout()),
+        ),
+        Err(ReadError::Reader(error)) => Err(PrintError::Page(error)),
+        Err(ReadError::Memory(error)) => Err(PrintError::Memory(error)),
     };
-    let printed = print_to(
-        rt.alloc(),
-        &mut page.as_slice(),
-        &mut AnyReader(rt.stdin()),
-        &mut AnyWriter(rt.stdout()),
-    );
     match printed {
         Ok(()) => Ok(()),
         Err(PrintError::Page(error)) => unread(&rt, "bench.page", error),

@@ -10,6 +10,9 @@ use std::alloc::{AllocError, Global};
 use std::io;
 use std::io::ErrorKind;
 
+// A row is filled with zeros before it is read into, so bytes are read in parts: at first so many, then each time as many as were read.
+const FIRST_PART: usize = 4096;
+
 /// What kept bytes from being read.
 #[derive(Debug, Drop)]
 pub enum ReadError {
@@ -30,8 +33,13 @@ pub fn read_first<R: Source>(
     ensures few { TakesAtMost most (R.remaining reader.old) (R.remaining reader.new) }
     ensures error { IfErr result (ReadErrorOf R.fails reader.old reader.new) }
 {
-    let mut bytes = vec![in heap; 0u8; most].map_err(ReadError::Memory)?;
-    let count = fill(reader, bytes.as_mut_slice()).map_err(ReadError::Reader)?;
+    let mut bytes = Vec::with_capacity(heap, most).map_err(ReadError::Memory)?;
+    let mut count = 0;
+    while count == bytes.len() && count < most {
+        let room = count + (most - count).min(count.max(FIRST_PART));
+        bytes.resize(room, 0).map_err(ReadError::Memory)?;
+        count += fill(reader, &mut bytes.as_mut_slice()[count..]).map_err(ReadError::Reader)?;
+    }
     bytes.truncate(count);
     Ok(bytes)
 }

@@ -7,5 +7,5 @@ loop-count-preserved g c =
     let read = c.in_ok-more.ensures in (
       search rules,
       search rules,
-      filled_more _ _ _ c.loop-count.count c.in_ok-more.more _ c.loop-count.row c.read_retrying.new.row c.loop-count.invariant.1 read.bound.0 c.loop-count.invariant.2 read.bytes.0,
+      filled_more c.loop-count.count c.in_ok-more.more _ c.loop-count.row c.read_retrying.new.row c.loop-count.invariant.1 read.bound.0 _ _ _ c.loop-count.invariant.2 read.bytes.0,
     )
